@@ -211,8 +211,8 @@ struct kelifandro_card {
     uint8_t lines; /* 1, 4 or 8 */
     uint8_t high_speed;
     uint8_t read_only;
-    uint8_t trims;
-    uint8_t cmd23;
+    uint8_t trims; /* 0 also of a device that is known to lose data by them, by its CID */
+    uint8_t cmd23; /* and of a card that is known to lock up at CMD23 */
     uint8_t erased_byte; /* what each byte of an erased sector holds */
     uint8_t cause;
     uint16_t rca;

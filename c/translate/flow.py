@@ -67,7 +67,7 @@ class Folding:
         if len(users) != 1 or users[0][1] != made.block:
             return None
         user = users[0][0]
-        return None if user.op == 'insertvalue' or user.is_fixed_step() or user.is_lifetime() else user
+        return None if user.op == 'insertvalue' or user.is_fixed_step() or user.is_lifetime() or user.is_wide_switch() else user
 
     def fold(self, block):
         place = {}

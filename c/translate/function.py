@@ -234,8 +234,23 @@ class FunctionWriter:
         else:
             self.line(depth, 'return %s;' % ('u128_of(0u, 0u)' if type_of(kind) == 'u128' else '0'))
 
+    def write_wide_switch(self, last, name, nested, depth):
+        """Of over 64 bits, which no `switch` of C takes: each number is compared."""
+        otherwise, cases = last.more
+        kind = last.values[0].type
+        value = self.operand(last.values[0])
+        head = 'if'
+        for target in sorted(nested, key=lambda target: target == otherwise):
+            same = ' || '.join(self.expressions.helper('u128_eq', value, number(n, kind)).text for n, to in cases if to == target)
+            self.line(depth, '%s (%s) {' % (head, same) if target != otherwise else 'else {' if head != 'if' else '{')
+            self.write_edge(name, target, depth + 1)
+            self.line(depth, '}')
+            head = 'else if'
+
     def write_switch(self, last, name, nested, depth):
         otherwise, cases = last.more
+        if last.is_wide_switch():
+            return self.write_wide_switch(last, name, nested, depth)
         value = self.operand(last.values[0])
         text = '(unsigned)' + value.bracketed() if last.values[0].type == 'i1' else value.text
         self.line(depth, 'switch (%s) {' % text)

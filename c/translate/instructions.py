@@ -58,6 +58,10 @@ class Instruction:
         """An address with a known distance from another one."""
         return self.op == 'getelementptr' and self.values[1].kind == '#'
 
+    def is_wide_switch(self):
+        """A switch over more bits than one of C takes."""
+        return self.op == 'switch' and bits(self.values[0].type) > 64
+
     def targets(self):
         """The blocks that it leads to, each once."""
         if self.op == 'br':
@@ -218,8 +222,6 @@ def branch(line, op, name):
 
 def switch(line, op, name):
     value = line.typed()
-    if bits(value.type) > 64:
-        raise line.refused('a switch over more than 64 bits')
     line.need(',')
     otherwise = line.label()
     line.need('[')

@@ -216,7 +216,7 @@ def loops():
 
 
 def switches():
-    for n in (8, 16, 32, 64, 7):
+    for n in (8, 16, 32, 64, 7, 128):
         cases = ' '.join('i%d %s, label %%%s' % (n, signed(n, value), block) for value, block in
                          ((0, 'one'), (1, 'two'), (2, 'end'), (2 ** n - 1, 'two'), (2 ** (n - 1), 'one')))
         function('switch_%d' % n, narrowed(n, 'a', 'x') + ['switch i%d %%x, label %%other [ %s ]' % (n, cases), 'one:', 'br label %end', 'two:',

@@ -31,7 +31,7 @@ LOCKED = SD + "locked yes\n"
 
 KINDS = """lose-command,flip-command 20,lose-reply,flip-reply 44,left-over crc,left-over illegal,bad-block,no-block,read-error,reject,
 reject-all,reject-busy,lose-block,lose-status old,lose-status new,fail old,fail new,fail old 80000000,fail new 00200000,
-fail-early old,find-protection,lose-failed-switch,busy,brownout old,brownout new"""
+fail-early old,fail-unseen old,find-protection,lose-failed-switch,busy,brownout old,brownout new"""
 KINDS = KINDS.replace("\n", "").split(",")
 MOST_FAULTS = 256
 

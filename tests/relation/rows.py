@@ -104,11 +104,13 @@ class Rows:
             yield refused(card), None, 0
             return
         yield self.status(shown(card), card)
-        if card.state == TRAN and card.lags and card.polled < PATIENCE:
+        if card.state == TRAN and card.lags:
             new, behind = waited(shown(card))._replace(lags=True), card._replace(state=UNKNOWN)
-            yield self.status(new, behind)
-            if card.may:
-                yield self.status(new._replace(may=card.may, must=card.must), behind._replace(may=0, must=False))
+            fault = 1 if card.polled >= PATIENCE else 0
+            yield self.status(new, behind, 0, fault)
+            if card.may or card.switch_error:
+                keeps = new._replace(may=card.may, must=card.must, switch_error=card.switch_error)
+                yield self.status(keeps, behind._replace(may=0, must=False, switch_error=False), 0, fault)
 
     def app_cmd(self, card, index, argument):
         yield self.status(shown(card)._replace(app=True), card)

@@ -47,4 +47,5 @@ flips_nothing kind flips h = record {
   read = λ card lines size. refl;
   write = λ card lines. refl;
   poll = λ card. refl;
+  time = λ card. refl;
 }

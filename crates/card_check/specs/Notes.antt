@@ -9,11 +9,11 @@ use Rattle.mmc_card.specs.declared.exchange.Timing.TheVariants.{Default}
 use Rattle.mmc_card.specs.declared.exchange.Width.TheVariants.{One}
 use Rattle.mmc_card_rows.specs.FaultErrors.{are_of_execution}
 use Rattle.mmc_card_rows.specs.declared.delays.Delays.{Delays}
-use Rattle.mmc_card_sim.specs.FaultyExchanges.{fits_command, fits_poll, fits_read, fits_write}
+use Rattle.mmc_card_sim.specs.FaultyExchanges.{fits_command, fits_poll, fits_read, fits_time, fits_write}
 use Rattle.mmc_card_sim.specs.FlippedReplies.{is_flip}
 use Rattle.mmc_card_sim.specs.declared.fault.Fault.{Fault as CardFault}
-use Rattle.mmc_card_sim.specs.declared.fault.Fault.TheVariants.{FailEarly, FailSwitch, FailSwitchLate, FailWith, FlipCommand, ShowError}
-use Rattle.mmc_card_sim.specs.declared.fault.Fault.TheVariants.{FlipReply, LoseFailedSwitch}
+use Rattle.mmc_card_sim.specs.declared.fault.Fault.TheVariants.{FailEarly, FailSwitch, FailSwitchLate, FailUnseen, FailWith}
+use Rattle.mmc_card_sim.specs.declared.fault.Fault.TheVariants.{FlipCommand, FlipReply, LoseFailedSwitch, ShowError}
 use Rattle.mmc_card_sim.specs.declared.spec.TheConstants.{MAX_SECTORS}
 use Rattle.mmc_switch.specs.declared.info.Info.{Info}
 use Rattle.mmc_block.specs.Refusal.{first_refusal}
@@ -78,6 +78,7 @@ pub record FitsNothing (kind : Kind) (fault : CardFault) : Type 0 where
   pub read : (card : Card) (lines : Lines) (size : ℕ) → fits_read (Some fault) card lines size ≡ false
   pub write : (card : Card) (lines : Lines) → fits_write (Some fault) card lines ≡ false
   pub poll : (card : Card) → fits_poll (Some fault) card ≡ false
+  pub time : (card : Card) → fits_time (Some fault) card ≡ false
 
 -- It may fit one: a switch of a byte is an eMMC device's, positions are those of a frame, and bits are errors of programming.
 abbrev pub can_fall : Kind → CardFault → Bool
@@ -89,6 +90,7 @@ can_fall kind (FlipReply flips) = is_flip flips 136
 can_fall kind (ShowError bits) = are_of_execution bits
 can_fall kind (FailWith outcome bits) = are_of_execution bits
 can_fall kind (FailEarly outcome bits) = are_of_execution bits
+can_fall kind (FailUnseen outcome bits) = are_of_execution bits
 can_fall kind fault = true
 
 -- why it can't
@@ -97,6 +99,7 @@ unfit_words (FlipCommand flips) = codes "a position is past the frame, or the sa
 unfit_words (FlipReply flips) = codes "a position is past the frame, or the same one stands twice"
 unfit_words (FailWith outcome bits) = codes "these bits aren't errors of programming"
 unfit_words (FailEarly outcome bits) = codes "these bits aren't errors of programming"
+unfit_words (FailUnseen outcome bits) = codes "these bits aren't errors of programming"
 unfit_words (ShowError bits) = codes "these bits aren't errors of execution"
 unfit_words fault = codes "an SD card has no CMD6 that writes a byte"
 

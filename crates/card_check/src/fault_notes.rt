@@ -22,9 +22,10 @@ pub fn can_fall(kind: Kind, fault: Fault) -> bool
         Fault::FailSwitch | Fault::FailSwitchLate | Fault::LoseFailedSwitch => kind == Kind::Mmc,
         Fault::FlipCommand(flips) => is_flip(flips, 48),
         Fault::FlipReply(flips) => is_flip(flips, 136),
-        Fault::ShowError(bits) | Fault::FailWith(_, bits) | Fault::FailEarly(_, bits) => {
-            is_of_execution(bits)
-        }
+        Fault::ShowError(bits)
+        | Fault::FailWith(_, bits)
+        | Fault::FailEarly(_, bits)
+        | Fault::FailUnseen(_, bits) => is_of_execution(bits),
         _ => true,
     }
 }
@@ -37,7 +38,7 @@ fn unfit_words(fault: Fault) -> &'static [u8]
         Fault::FlipCommand(_) | Fault::FlipReply(_) => {
             b"a position is past the frame, or the same one stands twice"
         }
-        Fault::FailWith(_, _) | Fault::FailEarly(_, _) => {
+        Fault::FailWith(_, _) | Fault::FailEarly(_, _) | Fault::FailUnseen(_, _) => {
             b"these bits aren't errors of programming"
         }
         Fault::ShowError(_) => b"these bits aren't errors of execution",

@@ -9,7 +9,7 @@ use Rattle.mmc_card_sim.specs.declared.fault.Fault.{Fault}
 use Rattle.mmc_card_sim.specs.declared.fault.Fault.TheVariants.{BadBlock, Brownout, Busy, Fail, FailWith, FlipCommand}
 use Rattle.mmc_card_sim.specs.declared.fault.Fault.TheVariants.{FailSwitch, FailSwitchLate, FlipReply, LeaveOver}
 use Rattle.mmc_card_sim.specs.declared.fault.Fault.TheVariants.{LoseCommand, LoseReply, LoseStatus, NoBlock, ReadError}
-use Rattle.mmc_card_sim.specs.declared.fault.Fault.TheVariants.{FailEarly, FindProtection, LoseBlock, LoseFailedSwitch}
+use Rattle.mmc_card_sim.specs.declared.fault.Fault.TheVariants.{FailEarly, FailUnseen, FindProtection, LoseBlock, LoseFailedSwitch}
 use Rattle.mmc_card_sim.specs.declared.fault.Fault.TheVariants.{Reject, RejectAll, RejectBusy, ShowError}
 use Rattle.mmc_card_sim.specs.declared.fault.Flips.{Flips}
 use Rattle.mmc_card_rows.specs.declared.fault.Outcome.{Outcome}
@@ -38,6 +38,7 @@ name_of (LoseStatus outcome) = codes "lose-status"
 name_of (Fail outcome) = codes "fail"
 name_of (FailWith outcome bits) = codes "fail"
 name_of (FailEarly outcome bits) = codes "fail-early"
+name_of (FailUnseen outcome bits) = codes "fail-unseen"
 name_of Busy = codes "busy"
 name_of (Brownout outcome) = codes "brownout"
 
@@ -68,6 +69,7 @@ details_text (LoseStatus outcome) = outcome_name outcome
 details_text (Fail outcome) = outcome_name outcome
 details_text (FailWith outcome bits) = outcome_name outcome ++ (codes " " ++ hex_text (to_be_bytes w32 bits))
 details_text (FailEarly outcome bits) = outcome_name outcome ++ (codes " " ++ hex_text (to_be_bytes w32 bits))
+details_text (FailUnseen outcome bits) = outcome_name outcome ++ (codes " " ++ hex_text (to_be_bytes w32 bits))
 details_text (Brownout outcome) = outcome_name outcome
 details_text fault = []
 

@@ -32,6 +32,7 @@ fn name_of(fault: Fault) -> &'static [u8]
         Fault::LoseStatus(_) => b"lose-status",
         Fault::Fail(_) | Fault::FailWith(..) => b"fail",
         Fault::FailEarly(..) => b"fail-early",
+        Fault::FailUnseen(..) => b"fail-unseen",
         Fault::Busy => b"busy",
         Fault::Brownout(_) => b"brownout",
     }
@@ -98,7 +99,9 @@ pub fn put_fault(out: &mut Vec<u8>, fault: Fault) -> Result<(), AllocError>
             let bits = bits.to_be_bytes();
             say(out, &[Piece::Text(b" "), Piece::Hex(&bits)])
         }
-        Fault::FailWith(outcome, bits) | Fault::FailEarly(outcome, bits) => {
+        Fault::FailWith(outcome, bits)
+        | Fault::FailEarly(outcome, bits)
+        | Fault::FailUnseen(outcome, bits) => {
             let outcome = outcome_name(outcome);
             let bits = bits.to_be_bytes();
             say(

@@ -8,7 +8,7 @@ use Rattle.mmc_card.specs.Faults.{CommandStep, MeetsBlock, MeetsCommand, Passes,
 use Rattle.mmc_card.specs.Faults.{at_once, brownout, busy, fail, fail_early, faithful}
 use Rattle.mmc_card.specs.Faults.{has_failed, has_fallen_short, has_rested, has_run}
 use Rattle.mmc_card.specs.Faults.{fail_switch, fall_short, find_error, flip_command, lose_block, show_errors}
-use Rattle.mmc_card.specs.Faults.{lose_command, lose_reply, lose_status, outlive, reject, slow_inquiry, spoil, turn_out}
+use Rattle.mmc_card.specs.Faults.{lose_command, lose_reply, lose_status, outlive, reject, slow_inquiry, slow_status, spoil, turn_out}
 use Rattle.mmc_card.specs.BusView.{BusView}
 
 -- time passes
@@ -34,6 +34,8 @@ module _ (old new : BusView) (before after : Option ℕ) where
       lose_reply choice patient count card answers refused
   command_meets frame reply (slow_inquiry choice slow late inquiry count card spells) =
       slow_inquiry choice slow late inquiry count card spells
+  command_meets frame reply (slow_status choice behind late status count card spells) =
+      slow_status choice behind late status count card spells
   command_meets frame reply (fail_switch choice fails switch count card spells) =
       fail_switch choice fails switch count card spells
   command_meets frame reply (find_error choice finds patient transfers count card spells) =

@@ -5,7 +5,7 @@ use Rattle.mmc_card.specs.BusView.{BusView}
 use Rattle.mmc_card.specs.declared.exchange.DataIn.{DataIn}
 use Rattle.mmc_card.specs.declared.exchange.DataOut.{DataOut}
 use Rattle.mmc_card.specs.declared.exchange.Reply.{Reply}
-use Rattle.mmc_card_sim.specs.FaultyExchanges.{Commands, Polls, Reads, Writes, fits_command, fits_poll, fits_read, fits_write}
+use Rattle.mmc_card_sim.specs.FaultyExchanges.{Commands, Polls, Reads, Writes, counted, fits_command, fits_poll, fits_read, fits_write}
 use Rattle.mmc_card_sim.specs.Plan.{fault_at, to_come}
 use Rattle.mmc_card_sim.specs.SimView.{SimView, met, planned_fault, sim_bus_view}
 use Rattle.mmc_card_sim.specs.declared.fault.Fault.{Fault}
@@ -31,28 +31,27 @@ ruled_view ruled = record (sim_bus_view ruled.card) { may_fall = may_fall_by rul
 abbrev pub planned_between : SimView → SimView → Option Fault
 planned_between old new = fault_at new.plan old.wire.exchanges
 
-abbrev pub counts : Bool → ℕ → ℕ
-counts fell faults = if fell then faults + 1 else faults
-
 abbrev pub DoesCommand : Option Fault → SimView → List ℕ → Reply → SimView → Type 0
 DoesCommand fault old frame reply new =
-    Commands fault (met old).delays (met old).card frame reply (fits_command fault (met old).delays (met old).card frame) new.card
-    × (new.faults ≡ counts (fits_command fault (met old).delays (met old).card frame) old.faults)
+    Commands fault (met fault old).delays (met fault old).card frame reply
+    (fits_command fault (met fault old).delays (met fault old).card frame) new.card
+    × (new.faults ≡ counted (fits_command fault (met fault old).delays (met fault old).card frame) (met fault old).faults)
 
 abbrev pub DoesRead : Option Fault → SimView → ℕ → DataIn → List ℕ → SimView → Type 0
 DoesRead fault old size got block new =
     Reads fault old.delays old.card old.wire.lines size got block (fits_read fault old.card old.wire.lines size) new.card
-    × (new.faults ≡ counts (fits_read fault old.card old.wire.lines size) old.faults)
+    × (new.faults ≡ counted (fits_read fault old.card old.wire.lines size) old.faults)
 
 abbrev pub DoesWrite : Option Fault → SimView → List ℕ → DataOut → SimView → Type 0
 DoesWrite fault old block got new =
-    Writes fault (met old).delays (met old).card old.wire.lines block got (fits_write fault (met old).card old.wire.lines) new.card
-    × (new.faults ≡ counts (fits_write fault (met old).card old.wire.lines) old.faults)
+    Writes fault (met fault old).delays (met fault old).card old.wire.lines block got
+    (fits_write fault (met fault old).card old.wire.lines) new.card
+    × (new.faults ≡ counted (fits_write fault (met fault old).card old.wire.lines) (met fault old).faults)
 
 abbrev pub DoesPoll : Option Fault → SimView → Bool → SimView → Type 0
 DoesPoll fault old said new =
     Polls fault old.delays old.card said (fits_poll fault old.card) new.card
-    × (new.faults ≡ counts (fits_poll fault old.card) old.faults)
+    × (new.faults ≡ counted (fits_poll fault old.card) old.faults)
 
 -- of the card nothing but the plan has changed
 pub record Plans (old new : RuledCard) : Type 0 where

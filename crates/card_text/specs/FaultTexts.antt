@@ -8,7 +8,7 @@ use Rattle.mmc_card_sim.specs.declared.fault.Fault.{Fault}
 use Rattle.mmc_card_sim.specs.declared.fault.Fault.TheVariants.{BadBlock, Brownout, Busy, Fail, FailWith, FlipCommand}
 use Rattle.mmc_card_sim.specs.declared.fault.Fault.TheVariants.{FailSwitch, FailSwitchLate, FlipReply, LeaveOver}
 use Rattle.mmc_card_sim.specs.declared.fault.Fault.TheVariants.{LoseCommand, LoseReply, LoseStatus, NoBlock, ReadError}
-use Rattle.mmc_card_sim.specs.declared.fault.Fault.TheVariants.{FailEarly, FindProtection, LoseBlock, LoseFailedSwitch}
+use Rattle.mmc_card_sim.specs.declared.fault.Fault.TheVariants.{FailEarly, FailUnseen, FindProtection, LoseBlock, LoseFailedSwitch}
 use Rattle.mmc_card_sim.specs.declared.fault.Fault.TheVariants.{Reject, RejectAll, RejectBusy, ShowError}
 use Rattle.mmc_card_sim.specs.declared.fault.Flips.{Flips}
 use Rattle.mmc_card_rows.specs.declared.fault.Outcome.{Outcome}
@@ -71,6 +71,12 @@ early_failure (Fail outcome) = FailEarly outcome 0x00080000
 early_failure (FailWith outcome bits) = FailEarly outcome bits
 early_failure fault = fault
 
+-- or unseen
+abbrev pub unseen_failure : Fault → Fault
+unseen_failure (Fail outcome) = FailUnseen outcome 0x00080000
+unseen_failure (FailWith outcome bits) = FailUnseen outcome bits
+unseen_failure fault = fault
+
 -- a fault that one word says: of a switch, of a block that is lost, or of what a card does besides
 unfoldable pub further_lone_fault_of : List ℕ → Option Fault
 further_lone_fault_of word =
@@ -104,8 +110,9 @@ fault_with_words_of name words =
     else (if bytes_eq name (codes "lose-status") then option_map (λ outcome. LoseStatus outcome) (outcome_of words)
     else (if bytes_eq name (codes "fail") then failure_of words
     else (if bytes_eq name (codes "fail-early") then option_map (λ fault. early_failure fault) (failure_of words)
+    else (if bytes_eq name (codes "fail-unseen") then option_map (λ fault. unseen_failure fault) (failure_of words)
     else (if bytes_eq name (codes "brownout") then option_map (λ outcome. Brownout outcome) (outcome_of words)
-    else None)))))))
+    else None))))))))
 
 -- the text of a fault, by its fields
 unfoldable pub fault_of : List (List ℕ) → Option Fault

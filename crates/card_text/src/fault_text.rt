@@ -3,6 +3,7 @@ ghost use Rattle.std.specs.Prelude.{◌≡◌, option_map};
 ghost use Rattle.card_text.specs.FaultTexts.{command_error_in, command_error_of, failure_of, fault_of};
 ghost use Rattle.card_text.specs.FaultTexts.{fault_with_words_of, flips_of, lone_fault_of, lone_word_of, outcome_in};
 ghost use Rattle.card_text.specs.FaultTexts.{early_failure, further_lone_fault_of, outcome_of, position_of, shown_error_of};
+ghost use Rattle.card_text.specs.FaultTexts.{unseen_failure};
 ghost use Rattle.card_text.specs.Parts.{left_parts, parts};
 
 use crate::cut::cut;
@@ -131,6 +132,17 @@ fn early_failure(fault: Fault) -> Fault
     }
 }
 
+// What fails so, but unseen: without error bits it is ERROR.
+fn unseen_failure(fault: Fault) -> Fault
+    ensures { result ≡ unseen_failure fault }
+{
+    match fault {
+        Fault::Fail(outcome) => Fault::FailUnseen(outcome, 0x0008_0000),
+        Fault::FailWith(outcome, bits) => Fault::FailUnseen(outcome, bits),
+        other => other,
+    }
+}
+
 // A fault that one word says: of a switch, of a block that is lost, or of what a card does besides.
 #[tactic(auto, unfolding(crate::specs::FaultTexts::further_lone_fault_of))]
 fn further_lone_fault(word: &[u8]) -> Option<Fault>
@@ -198,6 +210,8 @@ fn fault_with_words(name: &[u8], words: &[u8]) -> Option<Fault>
         failure(words)
     } else if name == b"fail-early".as_slice() {
         Some(early_failure(failure(words)?))
+    } else if name == b"fail-unseen".as_slice() {
+        Some(unseen_failure(failure(words)?))
     } else if name == b"brownout".as_slice() {
         Some(Fault::Brownout(outcome(words)?))
     } else {

@@ -4,6 +4,7 @@ use Rattle.std.specs.Prelude.{IfSome, None, Option, Some, map}
 use Rattle.mmc_card.specs.BusView.{BusView}
 use Rattle.mmc_queue.specs.declared.entry.Entry.{Entry}
 use Rattle.mmc_recovery.specs.Settled.{TellsReset}
+use Rattle.mmc_recovery.specs.declared.order.Patience.TheVariants.{Once}
 use Rattle.mmc_recovery.specs.declared.healed.Healed.{Healed}
 use Rattle.mmc_switch.specs.declared.broken.Broken.{Broken}
 use Rattle.mmc_switch.specs.declared.progress.Progress.{Progress}
@@ -95,7 +96,7 @@ concluded_shows (Failed broken) attempt service cs healed (inr c) on some =
     shows_failed broken service cs healed (failed_at broken attempt.group.members.items attempt.others.items service cs c.1)
 
 abbrev Tells : Option Broken → BusView → Option Session → Bool → BusView → Type 0
-Tells settled was session was_reset now = IfSome settled (λ broken. TellsReset broken was session was_reset now)
+Tells settled was session was_reset now = IfSome settled (λ broken. TellsReset Once broken was session was_reset now)
 
 pub turn_heals : {B : Type 0} (view : B → BusView) (old new : DeviceView B) (entries left : List Entry) (stage : Stage)
     (attempt after : Attempt) (o : Progress Stage) (cs : List Completion) (mid : Healed)

@@ -54,7 +54,7 @@ pub opens_known : (session : Session) (info now : Info) (a b : BusView) → info
 opens_known session info now a b is from p =
     subst (IsInfo a.limits a.card.made) (sym (is ∙ ap lasting from))
     (lasting_info a.limits a.card.made session.info
-    (said_before (λ limits made. IsInfo limits made session.info) a b p.stays p.own.knows.info))
+    (said_before (λ limits made. IsInfo limits made session.info) a b p.stays p.own.info))
 
 -- What stays, and what sectors may hold.
 pub opens_stays : (r : Result Session InitializationFault) (a b : BusView) → Initializes r a b → Stays a b × Narrows a b

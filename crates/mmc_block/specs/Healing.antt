@@ -4,6 +4,7 @@ use Rattle.mmc_card.specs.BusView.{BusView}
 use Rattle.mmc_bus.specs.declared.cause.Cause.{Cause}
 use Rattle.mmc_recovery.specs.Healed.{with_attempt, with_failure, with_settling}
 use Rattle.mmc_recovery.specs.Settled.{TellsReset}
+use Rattle.mmc_recovery.specs.declared.order.Patience.TheVariants.{Once}
 use Rattle.mmc_recovery.specs.declared.healed.Healed.{Healed}
 use Rattle.mmc_switch.specs.declared.broken.Broken.{Broken}
 use Rattle.mmc_switch.specs.declared.progress.Progress.{Progress}
@@ -56,7 +57,7 @@ pub record TurnHeals {B : Type 0} (view : B → BusView) (old : DeviceView B) (c
     (new : DeviceView B) : Type 0 where
   pub was_reset : Bool
   pub tells : IfSome (broken_in old.service) (λ broken.
-      TellsReset broken (view old.bus) (ready_in new.service) was_reset (view new.bus))
+      TellsReset Once broken (view old.bus) (ready_in new.service) was_reset (view new.bus))
   pub healed : new.healed
       ≡ after_attempt (broken_in new.service) completions (after_settling (broken_in old.service) was_reset old.healed)
 
@@ -92,7 +93,7 @@ ready_then (Failed broken) = None
 pub record StepHeals (stage : Stage) (was : BusView) (old : Healed) (outcome : Progress Stage) (now : BusView)
     (new : Healed) : Type 0 where
   pub was_reset : Bool
-  pub tells : IfSome (broken_at stage) (λ broken. TellsReset broken was (ready_then outcome) was_reset now)
+  pub tells : IfSome (broken_at stage) (λ broken. TellsReset Once broken was (ready_then outcome) was_reset now)
   pub healed : new ≡ after_settling (broken_at stage) was_reset old
 
 abbrev pub after_outcome : Progress Stage → Healed → Healed

@@ -33,7 +33,7 @@ use mmc_queue::laws::{
     a_group_lends_the_blocks_of_its_members, a_lent_group_keeps_its_requests,
 };
 use mmc_queue::{Group, Kind};
-use mmc_recovery::{Healed, settle_telling};
+use mmc_recovery::{Healed, Patience, settle_with};
 use mmc_switch::{Broken, Progress, Session, Standing, Stands, select};
 use mmc_transfer::{Pace, Run, Way};
 use std::mem;
@@ -130,7 +130,7 @@ fn settle<B: Bus>(bus: &mut B, broken: Broken, healed: &mut Healed) -> Progress<
         (B.view bus.old) result (B.view bus.new) }
     ensures healed { StepHeals (At (Stands.Broken broken)) (B.view bus.old) healed.old result (B.view bus.new) healed.new }
 {
-    let (settled, was_reset) = settle_telling(bus, broken);
+    let (settled, was_reset) = settle_with(bus, broken, Patience::Once);
     *healed = healed.settled(was_reset);
     match settled {
         Ok(session) => Progress::More(Stage::At(Stands::Ready(session))),

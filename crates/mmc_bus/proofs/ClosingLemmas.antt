@@ -1,5 +1,4 @@
 -- What statuses in a row tell, while the card is at work and then not any more.
-use Rattle.std.proofs.lemmas.Bool.{ltb-true}
 use Rattle.std.proofs.Common.{◌+◌, ◌<◌, ◌-◌, ◌∙◌, ◌≡◌, ◌≤◌, Bool, ap, arith, cond, false, inl, inr, refl, subst, sym, true, ℕ}
 use Rattle.std.specs.Prelude.{◌⊎◌, Err, IsErr, IsOk, Ok, Result, bit_or, if◌then◌else◌}
 use Rattle.std.specs.Int.Bits.{or_zero_r}
@@ -80,12 +79,21 @@ order_back kind old new none e order = record {
   rests = sym (ap (λ (c : Card). c.is_busy) e) ∙ order.rests;
 }
 
-clean_on : (kind : Kind) (old new : Card) → HasShown old new → new.errors ≡ 0 → WillBeClean kind old → WillBeClean kind new
-clean_on kind old new e none order =
+-- it held no error of its own, if it holds none after a status
+none_held : (kind : Kind) (old new : Card) → WasAtWork kind old new → HasNoErrorOfItsOwn kind new → HasNoErrorOfItsOwn kind old
+none_held kind old new was none = record {
+  errors = was.held_none none.errors;
+  switch_error = λ judged mmc.
+      was.held_no_switch_error judged mmc (none.switch_error judged (ap (λ (c : Card). c.made.kind) was.shown ∙ mmc));
+}
+
+clean_on : (kind : Kind) (old new : Card) → HasShown old new → new.errors ≡ 0
+    → (old.switch_error ≡ false → new.switch_error ≡ false) → WillBeClean kind old → WillBeClean kind new
+clean_on kind old new e none switched order =
     subst (WillBeClean kind) (sym e) (
       order.0,
       record {
-        no_error = record { errors = none; switch_error = λ judged mmc. refl };
+        no_error = record { errors = none; switch_error = λ judged mmc. switched (order.1.no_error.switch_error judged mmc) };
         tran = order.1.tran;
         rests = order.1.rests;
       },
@@ -105,7 +113,7 @@ sound_in_order kind card order = (ap is_selected order.tran, order.no_error.erro
 
 pub sound_at_work : (kind : Kind) (old new : Card) → WasAtWork kind old new → IsSound new → IsSound old
 sound_at_work kind old new was sound =
-    (ap (λ (c : Card). is_selected c.state) (sym was.shown) ∙ sound.0, (was.held_none sound.1).errors)
+    (ap (λ (c : Card). is_selected c.state) (sym was.shown) ∙ sound.0, was.held_none sound.1)
 
 -- a card that has only shown its status is as still as it was
 still_shown : (old new : Card) → HasShown old new → IsStill old → IsStill new
@@ -168,12 +176,14 @@ asking_on kind rca old statuses now new p q =
     let parts = quiet_parts old now new p.stays q.stays same in
     let was = p.soon parts.0 order app is in
     let comes = q.fine parts.1 was.0 was.1 was.2 in
-    (was.0, was.1, was.2, was.3, comes.0.1, comes.0.2, comes.1) in
-    let soon_shown : NoFault old new → WillBeClean kind old.card → old.card.app ≡ false → old.card.rca ≡ rca
-    → HasShown now.card new.card = λ same order app is.
+    let below = comes.1 in
+    let more = comes.0.1 in
+    (was.0, was.1, was.2, was.3, below, omega (arith, below, more), comes.2) in
+    let soon_was : NoFault old new → WillBeClean kind old.card → old.card.app ≡ false → old.card.rca ≡ rca
+    → WasAtWork kind now.card new.card = λ same order app is.
     let was = (after same order app is).0 in
     let e = still now met (still_in now.card Tran was.1.tran refl refl was.1.rests) passes in
-    subst (λ (v : BusView). HasShown v.card new.card) e own.shown in
+    subst (λ (v : BusView). WasAtWork kind v.card new.card) e own in
     record {
       was_kept = p.was_kept;
       was_card = λ k. p.was_card q.was_card;
@@ -184,7 +194,7 @@ asking_on kind rca old statuses now new p q =
       sound = λ is. p.sound (sound is);
       back = λ calm order.
           let was = (at_once calm (sound_in_order kind new.card order)).0 in
-          p.back calm (order_back kind now.card new.card (was.held_none order.no_error.errors) was.shown order);
+          p.back calm (order_back kind now.card new.card (none_held kind now.card new.card was order.no_error) was.shown order);
       card = λ calm is.
           let was = at_once calm is in (
             ap shown was.0.shown ∙ ap (λ (c : Card). polled_as c new.card.polled) (p.card calm (sound is)).0,
@@ -192,10 +202,11 @@ asking_on kind rca old statuses now new p q =
           );
       soon = λ same order app is.
           let all = after same order app is in
-          let shows = soon_shown same order app is in
+          let now_was = soon_was same order app is in
+          let shows = now_was.shown in
           let was = all.3 in
           let more = all.5 in (
-            clean_on kind now.card new.card shows all.6 all.0,
+            clean_on kind now.card new.card shows all.6 now_was.gets_no_switch_error all.0,
             ap (λ (c : Card). c.app) shows,
             ap (λ (c : Card). c.rca) shows ∙ all.2,
             omega (arith, was, more),
@@ -356,11 +367,7 @@ UncleanLaw =
     → IsClean kind (own_status told) → ⊥
 
 lagged : (choice : Choice) (old new : Card) → may_lag old ≡ true → new ≡ lagging choice old → HasLagged old new
-lagged choice old new may e =
-    let soon = both old.lags _ (both (is_in old.state Tran) _ may).1 in
-    let below : old.polled < patience = ltb-true old.polled patience soon.1 in
-    let count : new.polled ≡ counted old.polled = ap (λ (c : Card). c.polled) e in
-    (soon.0, below, omega (arith, below, count))
+lagged choice old new may e = ((both (is_in old.state Tran) old.lags may).1, ap (λ (c : Card). c.polled) e)
 
 lagging_shown : (choice : Choice) (old new : Card) → new ≡ lagging choice old → HasShown old new
 lagging_shown choice old new e = subst (HasShown old) (sym e) refl
@@ -378,6 +385,20 @@ late_seen : (late : Bool) (errors : ℕ) → errors ≡ 0 → (if late then 0 el
 late_seen true errors none = refl
 late_seen false errors none = none
 
+-- and so does that a switch failed
+late_unset : (late is_set : Bool) → (if late then false else is_set) ≡ false → (if late then is_set else false) ≡ false
+    → is_set ≡ false
+late_unset true is_set seen left = left
+late_unset false is_set seen left = seen
+
+late_stays : (late is_set : Bool) → is_set ≡ false → (if late then is_set else false) ≡ false
+late_stays true is_set unset = unset
+late_stays false is_set unset = refl
+
+late_seen_unset : (late is_set : Bool) → is_set ≡ false → (if late then false else is_set) ≡ false
+late_seen_unset true is_set unset = refl
+late_seen_unset false is_set unset = unset
+
 -- what such a status leaves, which shows errors that are cleared by it
 lags_at_work : (kind : Kind) (choice : Choice) (left found : ℕ) (old new : Card) → (found ≡ 0) ⊎ (new.errors ≡ 0)
     → may_lag old ≡ true → new ≡ lagging choice (showing left found old)
@@ -385,13 +406,16 @@ lags_at_work : (kind : Kind) (choice : Choice) (left found : ℕ) (old new : Car
 lags_at_work kind choice left found old new cleared may e seen =
     let met = showing left found old in
     let errors : new.errors ≡ (if choice.tells_late then met.errors else 0) = ap (λ (c : Card). c.errors) e in
+    let switch : new.switch_error ≡ (if choice.tells_late then old.switch_error else false) =
+    ap (λ (c : Card). c.switch_error) e in
     record {
       shown = lagging_shown choice met new e;
-      held_none = λ none. record {
-        errors = (let held = late_none choice.tells_late met.errors seen.errors (sym errors ∙ none) in
-            omega (arith, held, le_or_l old.errors found));
-        switch_error = seen.switch_error;
-      };
+      held_none = λ none.
+          let held = late_none choice.tells_late met.errors seen.errors (sym errors ∙ none) in
+          omega (arith, held, le_or_l old.errors found);
+      held_no_switch_error = λ judged mmc none.
+          late_unset choice.tells_late old.switch_error (seen.switch_error judged mmc) (sym switch ∙ none);
+      gets_no_switch_error = λ unset. switch ∙ late_stays choice.tells_late old.switch_error unset;
       gets_none = λ none. elim cleared [
         | inl nothing ↦ errors ∙ late_gets choice.tells_late met.errors
             (ap (bit_or old.errors) nothing ∙ or_zero_r old.errors ∙ none)
@@ -404,7 +428,10 @@ lags_at_work kind choice left found old new cleared may e seen =
 seen_in_order : (kind : Kind) (choice : Choice) (card : Card) → HasNoErrorOfItsOwn kind card
     → HasNoErrorOfItsOwn kind (at_work choice card)
 seen_in_order kind choice card none =
-    record { errors = late_seen choice.tells_late card.errors none.errors; switch_error = none.switch_error }
+    record {
+      errors = late_seen choice.tells_late card.errors none.errors;
+      switch_error = λ judged mmc. late_seen_unset choice.tells_late card.switch_error (none.switch_error judged mmc);
+    }
 
 -- a status that was heard, by the card that told it: as it is, or as it lags behind
 told_by : (old new : Card) (heard : Result ℕ Unheard) → IsCard old
@@ -451,22 +478,27 @@ told_closing kind old new heard r k own clean lag unclean tells is_clean is_work
     (λ left found told met shows says e. (order_showing kind left found old ((clean kind told _ met shows).0 says), e))
     (λ left found told choice cleared met shows says may e. absurd (unclean kind choice told _ met shows says)))
     (λ is. told_by old new heard k tells (IsAtWork kind) _ (is_work is)
-    (λ left found told met shows says e. record {
+    (λ left found told met shows says e.
+    let none = none_showing kind left found old ((own kind told _ met shows).0 says.no_error) in
+    record {
       shown = as_shown old new e;
-      held_none = λ none. none_showing kind left found old ((own kind told _ met shows).0 says.no_error);
-      gets_none = λ none. ap (λ (c : Card). c.errors) e;
+      held_none = λ _. none.errors;
+      held_no_switch_error = λ judged mmc _. none.switch_error judged mmc;
+      gets_none = λ _. ap (λ (c : Card). c.errors) e;
+      gets_no_switch_error = λ _. ap (λ (c : Card). c.switch_error) e;
       counts = λ still. cc (ap (λ (c : Card). c.lags) e, still);
     })
     (λ left found told choice cleared met shows says may e.
     lags_at_work kind choice left found old new cleared may e ((lag kind choice told _ met shows).0 says)))
 
 pub told_soon : {E : Type 0} (kind : Kind) (old new : Card) (heard : Result ℕ Unheard) (r : Result Closing E) → IsCard old
-    → CleanLaw → LagLaw → UncleanLaw → (told : ℕ) → heard ≡ Ok told → TellsStatus old told new → WillBeClean kind old
+    → CleanLaw → LagLaw → UncleanLaw → (told : ℕ) → heard ≡ Ok told → TellsStatus old told new
+    → (new.lags ≡ true → old.polled < patience) → WillBeClean kind old
     → ((told : ℕ) → heard ≡ Ok told → IsClean kind (own_status told) → r ≡ Ok Clean)
     → ((told : ℕ) → heard ≡ Ok told → (IsClean kind (own_status told) → ⊥) → IsAtWork kind (own_status told)
     → r ≡ Ok AtWork)
     → ClosesSoon r old new
-told_soon {E} kind old new heard r k clean lag unclean told is tells order all_clean all_work =
+told_soon {E} kind old new heard r k clean lag unclean told is tells soon order all_clean all_work =
     elim tells [
       | inl itself ↦ subst (λ (r : Result Closing E). ClosesSoon r old new)
           (sym (all_clean told is ((clean kind told old k itself.0).1 order.0 order.1))) tt
@@ -475,6 +507,7 @@ told_soon {E} kind old new heard r k clean lag unclean told is tells order all_c
           (sym (all_work told is (unclean kind lags.choice told old k lags.told_is)
           ((lag kind lags.choice told old k lags.told_is).1 order.0 (seen_in_order kind lags.choice old order.1.no_error)))) (
             lagged lags.choice old new lags.may lags.card,
+            soon (ap (λ (c : Card). c.lags) lags.card),
             ap (λ (c : Card). c.errors) lags.card ∙ late_gets lags.choice.tells_late old.errors order.1.no_error.errors,
           )
     ]

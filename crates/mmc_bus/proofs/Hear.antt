@@ -40,7 +40,7 @@ use Rattle.mmc_card.specs.Faults.{WriteStep, at_once, has_failed, has_fallen_sho
 use Rattle.mmc_card.specs.Faults.{PollStep, ReadStep, brownout, fail, fail_early, faithful, fall_short}
 use Rattle.mmc_card.specs.Faults.{IsRefused, busy, fail_switch, find_error, flip_command, lose_command, lose_reply}
 use Rattle.mmc_card.specs.Faults.{show_errors}
-use Rattle.mmc_card.specs.Faults.{lose_block, lose_status, reject, slow_inquiry, spoil, turn_out}
+use Rattle.mmc_card.specs.Faults.{lose_block, lose_status, reject, slow_inquiry, slow_status, spoil, turn_out}
 use Rattle.mmc_bus.specs.Heard.{cause_of, cause_of_command}
 use Rattle.mmc_card.specs.Laws.{CountsAtMost, IsStill, erased_by, is_frame_of_run, maybe_erased}
 use Rattle.mmc_bus.specs.Learned.{Asked, CommandFacts, CommandMet, Faithful, Hears, IsAccepted, Obeyed, PollFacts, ReadFacts, WriteFacts, carried_out}
@@ -222,6 +222,11 @@ command_sound Fits hears answers old frame index argument reply new reads fits c
     (card_at choice old.card new.card frame index argument command card)
     (heard_at Fits hears answers choice old.card old.card frame index argument reply reads (fits _ _ choice) command spells) x h
 command_sound Fits hears answers old frame index argument reply new reads fits command
+    (slow_status choice behind late status count card spells) x h =
+    obeyed answers choice old.card index argument (hears reply) new.card reads.mute
+    (card_at choice old.card new.card frame index argument command card)
+    (heard_at Fits hears answers choice old.card old.card frame index argument reply reads (fits _ _ choice) command spells) x h
+command_sound Fits hears answers old frame index argument reply new reads fits command
     (fail_switch choice fails switch count card spells) x h =
     obeyed answers choice old.card index argument (hears reply) new.card reads.mute
     (card_at choice old.card new.card frame index argument command card)
@@ -265,6 +270,8 @@ command_fine Fits hears answers old frame index argument reply new reads fits co
     (lose_reply choice patient count card answers_it refused) same = fell old new count same
 command_fine Fits hears answers old frame index argument reply new reads fits command
     (slow_inquiry choice slow late inquiry count card spells) same = fell old new count same
+command_fine Fits hears answers old frame index argument reply new reads fits command
+    (slow_status choice behind late status count card spells) same = fell old new count same
 command_fine Fits hears answers old frame index argument reply new reads fits command
     (fail_switch choice fails switch count card spells) same = fell old new count same
 command_fine Fits hears answers old frame index argument reply new reads fits command

@@ -10,7 +10,7 @@ ghost use Rattle.mmc_bus.specs.declared.host.Unheard.{Unheard};
 ghost use Rattle.mmc_card.specs.CardAnswer.{busied, done, refused, reset, shown};
 ghost use Rattle.mmc_card.specs.Judged.{Shows};
 ghost use Rattle.mmc_card.specs.Card.{IsCard, NoAddress, is_identified};
-ghost use Rattle.mmc_bus.specs.CommandLaws.{Does, DoesOne, Inquires, IsUnheard, Names, Responded, TellsStatus};
+ghost use Rattle.mmc_bus.specs.CommandLaws.{AsksStatus, Does, DoesOne, Inquires, IsUnheard, Names, Responded};
 ghost use Rattle.mmc_card.specs.Faults.{NoFault};
 ghost use Rattle.mmc_bus.specs.Heard.{nothing_of, ocr_of, register_of};
 ghost use Rattle.mmc_bus.specs.Learned.{CommandFacts};
@@ -110,12 +110,12 @@ pub fn cmd9_tells_the_csd()
 }
 
 /// CMD13, SEND_STATUS: an identified card tells its status, and holds no error after it. After CMD7, CMD12 and its programming
-/// the status may lag, and errors may show later still.
+/// the status may lag, at most fifteen times with the polls that were answered yes, and errors may show later still.
 pub fn cmd13_tells_the_status()
     ensures { (old new : BusView) (argument : ℕ) (heard : Result ℕ Unheard)
         → Responded Index.SEND_STATUS old argument heard new
-        → DoesOne ((is_identified old.card.state ≡ true) × (old.card.app ≡ false) × Names argument old.card)
-        TellsStatus old heard new }
+        → AsksStatus ((is_identified old.card.state ≡ true) × (old.card.app ≡ false) × Names argument old.card)
+        old heard new }
 {}
 
 /// ACMD41, SD_SEND_OP_COND: a card in idle tells its OCR, and says to a host that serves it at most fifteen times that it

@@ -23,7 +23,7 @@ use Rattle.mmc_bus.specs.declared.wire.Wire.{Wire}
 use Rattle.mmc_record.specs.Note.{IsNoteOf, given_up, what_is_left}
 use Rattle.mmc_recovery.specs.declared.healed.Healed.{Healed}
 use Rattle.mmc_record.specs.declared.record.CardRecord.{CardRecord}
-use Rattle.mmc_switch.specs.Info.{IsInfo}
+use Rattle.mmc_switch.specs.Info.{IsKnown}
 use Rattle.mmc_switch.specs.Place.{IsBroken, IsPartOf, IsReady, Knows, setting_in}
 use Rattle.mmc_switch.specs.Stages.{IsAtRest}
 use Rattle.mmc_switch.specs.declared.broken.Broken.{Broken}
@@ -34,7 +34,7 @@ use Rattle.mmc_calls.specs.Noted.{IsCounted, HasServed, IsNoted, IsNotedOf, Note
 -- what a note says of a card whose registers have their checks
 abbrev pub IfItsCard : Info → Stands → CardRecord → Type 0
 IfItsCard info how note =
-    (limits : Lines) → (made : Made) → HasRegisters made → IsInfo limits made info → IsNoteOf how note
+    (limits : Lines) → (made : Made) → HasRegisters made → IsKnown limits made info → IsNoteOf how note
 
 pub ready_noted : (stands : Stands) (session : Session) (note : CardRecord) → stands ≡ Stands.Ready session
     → IfItsCard session.info (Stands.Ready session) note → Notes stands note
@@ -92,8 +92,8 @@ counted_by stands old (Err (Failed cause)) left note new fits notes h =
 knows_too : (session : Session) (v w : BusView) → w.card ≡ v.card → w.limits ≡ v.limits → Knows session v
     → Knows session w
 knows_too session v w card limits k = record {
-  info = subst (λ l. IsInfo l w.card.made session.info) (sym limits)
-      (subst (λ (c : Card). IsInfo v.limits c.made session.info) (sym card) k.info);
+  info = subst (λ l. IsKnown l w.card.made session.info) (sym limits)
+      (subst (λ (c : Card). IsKnown v.limits c.made session.info) (sym card) k.info);
   partition_config = subst (λ (c : Card). c.made.kind ≡ Mmc
       → field 7 3 session.partition_config ≡ field 7 3 (partition_config c.made.ext_csd)) (sym card) k.partition_config;
 }

@@ -11,7 +11,8 @@ use mmc_recovery::Healed;
 use mmc_switch::{InitializationFault, open_card};
 
 /// Opens the card, whatever became of it before, and notes it. Until it is open the record is that of no card. What is met and healed
-/// is counted from here on.
+/// is counted from here on. What cards of its make are known to do wrong isn't used: trims of some eMMC devices, and CMD23 of some
+/// SD cards.
 ///
 /// # Errors
 /// What the last of three rounds says; of a card in profile only where three faults fell.
@@ -31,7 +32,7 @@ pub fn open<B: Bus>(
     *healed = Healed::new();
     match open_card(bus) {
         Ok(session) => {
-            *card = note(&session);
+            *card = note(&session.heeding_known_faults());
             Ok(())
         }
         Err(fault) => Err(fault),

@@ -5,7 +5,7 @@ use Rattle.mmc_card.specs.declared.exchange.DataOut.{DataOut}
 use Rattle.mmc_card.specs.declared.exchange.Reply.{Reply}
 use Rattle.mmc_card.specs.Faults.{MeetsBlock, MeetsCommand, NoFault, OneFault, PollStep, ReadStep, brownout, busy, fail, fail_early, faithful}
 use Rattle.mmc_card.specs.Faults.{fail_switch, fall_short, find_error, flip_command, lose_block}
-use Rattle.mmc_card.specs.Faults.{lose_command, lose_reply, lose_status, outlive, reject, show_errors, slow_inquiry, spoil, turn_out}
+use Rattle.mmc_card.specs.Faults.{lose_command, lose_reply, lose_status, outlive, reject, show_errors, slow_inquiry, slow_status, spoil, turn_out}
 use Rattle.mmc_card.specs.Laws.{CountsAtMost}
 use Rattle.mmc_card.specs.Sectors.{Sector}
 use Rattle.mmc_card.specs.BusView.{BusView}
@@ -23,6 +23,7 @@ command_counts old frame reply new (lose_command count card silent) = one old ne
 command_counts old frame reply new (flip_command keeps_count count card silent) = one old new count
 command_counts old frame reply new (lose_reply choice patient count card answers silent) = one old new count
 command_counts old frame reply new (slow_inquiry choice slow late inquiry count card spells) = one old new count
+command_counts old frame reply new (slow_status choice behind late status count card spells) = one old new count
 command_counts old frame reply new (fail_switch choice fails switch count card spells) = one old new count
 command_counts old frame reply new (find_error choice finds patient transfers count card spells) = one old new count
 command_counts old frame reply new (outlive choice bits argument among patient resets count card silent) = one old new count

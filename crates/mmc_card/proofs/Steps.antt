@@ -16,7 +16,7 @@ use Rattle.mmc_card.specs.Card.{AreAmong, Card, is_in}
 use Rattle.mmc_card.specs.Faults.{MeetsBlock, MeetsCommand, Passes, PollStep, ReadStep, brownout, busy, fail, fail_early}
 use Rattle.mmc_card.specs.Faults.{at_once, faithful, has_failed, has_fallen_short, has_rested, has_run}
 use Rattle.mmc_card.specs.Faults.{fail_switch, fall_short, find_error, flip_command, lose_block, show_errors}
-use Rattle.mmc_card.specs.Faults.{lose_command, lose_reply, lose_status, outlive, reject, slow_inquiry, spoil, turn_out}
+use Rattle.mmc_card.specs.Faults.{lose_command, lose_reply, lose_status, outlive, reject, slow_inquiry, slow_status, spoil, turn_out}
 use Rattle.mmc_card.specs.Rows.{answered}
 use Rattle.mmc_card.specs.Sectors.{Sector}
 use Rattle.mmc_card.specs.BusView.{BusView}
@@ -76,6 +76,7 @@ after_command P old frame reply new stays answers leaves garbles bears survives 
       | flip_command keeps_count count card silent ↦ along P card (garbles keeps_count)
       | lose_reply choice patient count card heard silent ↦ along P card (answers choice)
       | slow_inquiry choice slow late inquiry count card spells ↦ along P card (answers choice)
+      | slow_status choice behind late status count card spells ↦ along P card (answers choice)
       | fail_switch choice fails switch count card spells ↦ along P card (answers choice)
       | find_error choice finds patient transfers count card spells ↦ along P card (answers choice)
       | outlive choice bits argument among patient resets count card silent ↦ along P card (bears bits _ among (answers choice))

@@ -46,7 +46,7 @@ pub record Choice : Type 0 where
   -- erase addresses are dropped without ERASE_RESET
   pub drops_quietly : Bool
   -- A status lags behind the card: it shows this state where that leads to tran, ready for data or not, and otherwise tran and
-  -- not ready. Errors of the programming may show later still.
+  -- not ready. Errors of the programming, or that a switch failed, may show later still.
   pub is_behind : Bool
   pub shows : State
   pub shows_ready : Bool

@@ -2,7 +2,7 @@
 -- The steps of a kept bus: time passes, and then each exchange is a faithful step, or one fault, which adds one to the count of
 -- faults. What may go wrong, and what a card does then, is the project's own.
 use Rattle.std.specs.Prelude.{◌&&◌, ◌+◌, ◌<◌, ◌≡◌, ◌≤◌, ◌⊎◌, Bool, IsSomeAnd, List, None, Ok, Option, Some, false}
-use Rattle.std.specs.Prelude.{if◌then◌else◌, is_ok, is_some, true, ℕ}
+use Rattle.std.specs.Prelude.{if◌then◌else◌, is_ok, is_some, not, true, ℕ}
 use Rattle.mmc_frame.specs.Frame.{command_in, response_in}
 use Rattle.mmc_frame.specs.RegisterFrame.{ocr_frame, ocr_in, register_frame, register_in}
 use Rattle.mmc_frame.specs.declared.card_state.State.TheVariants.{Idle, Prg, Rcv, Tran}
@@ -16,11 +16,11 @@ use Rattle.mmc_card.specs.Blocks.{offered, polled_once, programmed, rejected, re
 use Rattle.mmc_card.specs.Card.{AreAmong, Card, is_in, patience}
 use Rattle.mmc_card.specs.declared.command.Command.{Command}
 use Rattle.mmc_card.specs.declared.command.Command.TheVariants.{SdSendOpCond, SendOpCond, Switch, WriteBlock, WriteMultipleBlock}
-use Rattle.mmc_card.specs.declared.command.Command.TheVariants.{ReadMultipleBlock, ReadSingleBlock}
+use Rattle.mmc_card.specs.declared.command.Command.TheVariants.{ReadMultipleBlock, ReadSingleBlock, SendStatus}
 use Rattle.mmc_card.specs.Judged.{IsSaid}
 use Rattle.mmc_frame.specs.declared.commands.TheConstants as Index
-use Rattle.mmc_card.specs.Rows.{answered, command_of}
-use Rattle.mmc_card.specs.RowsIdentify.{is_served}
+use Rattle.mmc_card.specs.Rows.{answered, command_of, is_foreign}
+use Rattle.mmc_card.specs.RowsIdentify.{is_served, may_lag}
 use Rattle.mmc_card.specs.RowsSwitch.{switched}
 use Rattle.mmc_card.specs.BusView.{BusView}
 use Rattle.mmc_card.specs.declared.exchange.DataIn.TheVariants as Received
@@ -74,6 +74,15 @@ abbrev pub is_inquiry_frame : Card → Option (ℕ × ℕ) → Bool
 is_inquiry_frame card (Some command) = is_inquiry (command_of card.made.kind card.app command.0) card command.1
 is_inquiry_frame card None = false
 
+-- CMD13 to this card, whose status may lag behind it
+abbrev pub is_status : Command → Card → ℕ → Bool
+is_status SendStatus card argument = may_lag card && not (is_foreign SendStatus card argument)
+is_status _ card argument = false
+
+abbrev pub is_status_frame : Card → Option (ℕ × ℕ) → Bool
+is_status_frame card (Some command) = is_status (command_of card.made.kind card.app command.0) card command.1
+is_status_frame card None = false
+
 -- a switch of an eMMC device that it knows
 abbrev pub is_switch : Command → Card → ℕ → Bool
 is_switch Switch card argument = is_in card.state Tran && is_some (switched card argument)
@@ -87,10 +96,17 @@ is_switch_frame card None = false
 abbrev pub IsPatient : Choice → ℕ → Type 0
 IsPatient choice times = choice.is_slow ≡ true → times < patience
 
--- so it is at a command, no switch fails, and no read or write finds an error
+-- no status lags behind it more often, counted with the polls that were answered yes
+abbrev pub IsPunctual : Choice → Card → Type 0
+IsPunctual choice card = choice.is_behind ≡ true → card.polled < patience
+
+-- so it is at a command: patient with inquiries, and punctual with statuses
+abbrev pub IsTimely : Choice → Card → Type 0
+IsTimely choice card = IsPatient choice card.inquiries × IsPunctual choice card
+
+-- and no switch fails, and no read or write finds an error
 abbrev pub IsFaultless : Choice → Card → Type 0
-IsFaultless choice card =
-    IsPatient choice card.inquiries × (choice.fails_switch ≡ false) × (choice.finds ≡ 0)
+IsFaultless choice card = IsTimely choice card × (choice.fails_switch ≡ false) × (choice.finds ≡ 0)
 
 -- CMD17, CMD18, CMD24 or CMD25
 abbrev pub is_transfer : Command → Bool
@@ -141,7 +157,7 @@ pub data MeetsCommand (old : BusView) (frame : List ℕ) (reply : Reply) (new : 
       → MeetsCommand old frame reply new
   -- The card answers, and the host hears nothing, or nothing sound; so it may not learn that a switch failed, or that sectors are
   -- protected.
-  lose_reply : (choice : Choice) → IsPatient choice old.card.inquiries → OneFault old new
+  lose_reply : (choice : Choice) → IsTimely choice old.card → OneFault old new
       → new.card ≡ (answered choice old.card (command_in frame)).0
       → ((answered choice old.card (command_in frame)).1 ≡ Silent → ⊥)
       → IsRefused (command_in frame) (answered choice old.card (command_in frame)).1 reply
@@ -152,7 +168,13 @@ pub data MeetsCommand (old : BusView) (frame : List ℕ) (reply : Reply) (new : 
       → new.card ≡ (answered choice old.card (command_in frame)).0
       → Replies old.card (answered choice old.card (command_in frame)).1 reply
       → MeetsCommand old frame reply new
-  -- a switch fails: no byte changes, which SWITCH_ERROR says, in the response or in the first status after it
+  -- a status lags once more than a faithful card's do
+  slow_status : (choice : Choice) → choice.is_behind ≡ true → patience ≤ old.card.polled
+      → is_status_frame old.card (command_in frame) ≡ true → OneFault old new
+      → new.card ≡ (answered choice old.card (command_in frame)).0
+      → Replies old.card (answered choice old.card (command_in frame)).1 reply
+      → MeetsCommand old frame reply new
+  -- a switch fails: no byte changes, which SWITCH_ERROR says, in the response or in a status after it
   fail_switch : (choice : Choice) → choice.fails_switch ≡ true → is_switch_frame old.card (command_in frame) ≡ true
       → OneFault old new → new.card ≡ (answered choice old.card (command_in frame)).0
       → Replies old.card (answered choice old.card (command_in frame)).1 reply

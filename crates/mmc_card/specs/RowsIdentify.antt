@@ -1,7 +1,7 @@
 -- Relation (docs/AUDIT.md, "What to read").
 -- Identification and status (SD Physical Layer 6.00, sections 4.2 and 4.3; JESD84-B51, sections 6.4 and 6.6.1).
 -- Each row is what a card does with a command in a state where it is legal, and its answer.
-use Rattle.std.specs.Prelude.{◌&&◌, ◌+◌, ◌==◌, ◌^◌, ◌||◌, Bool, false, if◌then◌else◌, nat_lt, not, true, ℕ}
+use Rattle.std.specs.Prelude.{◌&&◌, ◌+◌, ◌==◌, ◌^◌, ◌||◌, Bool, false, if◌then◌else◌, not, true, ℕ}
 use Rattle.mmc_frame.specs.Field.{field}
 use Rattle.mmc_frame.specs.declared.card_state.State.{State}
 use Rattle.mmc_frame.specs.declared.card_state.State.TheVariants.{Data, Ident, Prg, Rcv, Ready, Stby, Tran}
@@ -9,7 +9,7 @@ use Rattle.mmc_frame.specs.declared.commands.TheConstants as Index
 use Rattle.mmc_regs.specs.Ocr.{card_capacity_status}
 use Rattle.mmc_card.specs.CardAnswer.{CardAnswer, Checked, Choice, Silent, R3, R2, busied, counted, done, published}
 use Rattle.mmc_card.specs.CardAnswer.{r6_argument, reset, shown, status}
-use Rattle.mmc_card.specs.Card.{Card, is_in, patience}
+use Rattle.mmc_card.specs.Card.{Card, is_in}
 
 -- CMD0, GO_IDLE_STATE
 abbrev pub go_idle_state : Choice → Card → Card × CardAnswer
@@ -74,10 +74,10 @@ send_if_cond card argument = (
 abbrev pub send_csd : Card → Card × CardAnswer
 send_csd card = (done card, R2 card.made.csd)
 
--- After CMD7, CMD12 and its programming a card's status may still show it on its way to tran. Together with the polls of its
--- busy time that were answered yes that is so at most `patience` times (the project's own).
+-- After CMD7, CMD12 and its programming a card's status may still show it on its way to tran (the project's own). How often
+-- it does is counted with the polls of its busy time that were answered yes.
 abbrev pub may_lag : Card → Bool
-may_lag card = is_in card.state Tran && (card.lags && nat_lt card.polled patience)
+may_lag card = is_in card.state Tran && card.lags
 
 -- the states that lead to tran
 abbrev pub leads_to_tran : State → Bool
@@ -88,13 +88,15 @@ leads_to_tran Prg = true
 leads_to_tran _ = false
 
 -- As such a status shows it: in one of these states, ready for data or not, or in tran and not ready (SD Physical Layer 6.00,
--- section 4.10.1; JESD84-B51, section 6.13). It may not show errors of the programming yet.
+-- section 4.10.1; JESD84-B51, section 6.13). It may not show errors of the programming yet, nor that a switch failed
+-- (JESD84-B51, section 6.6.1: SWITCH_ERROR is looked for once the busy time is over).
 abbrev pub at_work : Choice → Card → Card
 at_work choice card =
     record card {
       state = if leads_to_tran choice.shows then choice.shows else Tran;
       is_busy = not (leads_to_tran choice.shows && choice.shows_ready);
       errors = if choice.tells_late then 0 else card.errors;
+      switch_error = if choice.tells_late then false else card.switch_error;
     }
 
 -- a card after such a status
@@ -104,6 +106,7 @@ lagging choice card =
       lags = true;
       polled = counted card.polled;
       errors = if choice.tells_late then card.errors else 0;
+      switch_error = if choice.tells_late then card.switch_error else false;
     }
 
 -- CMD13, SEND_STATUS

@@ -159,7 +159,7 @@ switched card argument =
     else access_switched card argument
 
 -- CMD6 of eMMC, SWITCH: programming in any case, and SWITCH_ERROR where no byte changed, in the response or, said late,
--- in the first status after it (JESD84-B51, section 6.6.1)
+-- in the first status after it that doesn't keep it back (JESD84-B51, section 6.6.1)
 abbrev pub programs_switch : Card → Card
 programs_switch card = record (busied (shown card)) { state = Prg; is_switching = true; values = [] }
 

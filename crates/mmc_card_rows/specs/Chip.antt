@@ -10,7 +10,7 @@ use Rattle.mmc_card.specs.declared.exchange.DataIn.{DataIn}
 use Rattle.mmc_card.specs.declared.exchange.DataIn.TheVariants as Received
 use Rattle.mmc_card.specs.declared.exchange.Lines.{Lines}
 use Rattle.mmc_card.specs.Blocks.{asked_for, can_send, next_block, rested, sent}
-use Rattle.mmc_card.specs.Card.{Both, Card, First, FromBytes, FromSectors, Held, NoAddress, Source as CardSource, is_in}
+use Rattle.mmc_card.specs.Card.{Both, Card, First, FromBytes, FromSectors, Held, NoAddress, Source as CardSource, is_in, patience}
 use Rattle.mmc_card.specs.CardAnswer.{CardAnswer, Choice}
 use Rattle.mmc_card.specs.ErrorBits.{wp_violation}
 use Rattle.mmc_card.specs.RowsTransfer.{transfer_errors}
@@ -133,8 +133,9 @@ command_choice delays card =
       finds = if delays.finds_protection then wp_violation else 0;
       stays_busy = delays.stays_busy;
       is_behind =
-          nat_lt 0 (lagging_behind delays.before delays)
-          && nat_lt card.polled (delays.busy + lagging_behind delays.before delays);
+          nat_lt card.polled patience
+          && (nat_lt 0 (lagging_behind delays.before delays)
+          && nat_lt card.polled (delays.busy + lagging_behind delays.before delays));
       shows = delays.before;
     }
 

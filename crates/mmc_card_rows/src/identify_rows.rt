@@ -186,8 +186,8 @@ impl Chip {
         let lagging = delays.lagging_now();
         let most = u16::from(delays.busy) + u16::from(lagging);
         self.is_in(State::Tran)
-            && (self.lags && self.polled < PATIENCE)
-            && (lagging > 0 && u16::from(self.polled) < most)
+            && self.lags
+            && (self.polled < PATIENCE && (lagging > 0 && u16::from(self.polled) < most))
     }
 
     /// CMD13, whose status may lag behind: it shows the state that led to tran then.

@@ -11,7 +11,7 @@ use Rattle.mmc_card.specs.declared.exchange.Lines.{Lines}
 use Rattle.mmc_card.specs.declared.exchange.Exchange.{Exchange}
 use Rattle.mmc_card.specs.declared.exchange.Exchange.TheVariants.{In}
 use Rattle.mmc_card_rows.specs.declared.delays.Delays.{Delays}
-use Rattle.mmc_card_sim.specs.FaultyExchanges.{Polls, fits_command, fits_poll, fits_read, fits_write}
+use Rattle.mmc_card_sim.specs.FaultyExchanges.{Polls, counted, fits_command, fits_poll, fits_read, fits_time, fits_write}
 use Rattle.mmc_card_sim.specs.Plan.{fault_at}
 use Rattle.mmc_card_sim.specs.declared.plan.Planned.{Planned}
 
@@ -54,14 +54,15 @@ pub no_read_fails : (plan : List Planned) (exchange size old new : ℕ) (card : 
     → new ≡ (if fits_read (fault_at plan exchange) card lines size then old + 1 else old) → new ≡ old
 no_read_fails plan exchange size old new card lines none is = rw none at is
 
-pub no_write_fails : (plan : List Planned) (exchange old new : ℕ) (card : Card) (lines : Lines) → plan ≡ []
-    → new ≡ (if fits_write (fault_at plan exchange) card lines then old + 1 else old) → new ≡ old
-no_write_fails plan exchange old new card lines none is = rw none at is
+pub no_write_fails : (plan : List Planned) (exchange old new : ℕ) (first card : Card) (lines : Lines) → plan ≡ []
+    → new ≡ counted (fits_write (fault_at plan exchange) card lines) (counted (fits_time (fault_at plan exchange) first) old) → new ≡ old
+no_write_fails plan exchange old new first card lines none is = rw none at is
 
 pub no_poll_fails : (plan : List Planned) (exchange old new : ℕ) (card : Card) → plan ≡ []
     → new ≡ (if fits_poll (fault_at plan exchange) card then old + 1 else old) → new ≡ old
 no_poll_fails plan exchange old new card none is = rw none at is
 
-pub no_command_fails : (plan : List Planned) (exchange old new : ℕ) (delays : Delays) (card : Card) (frame : List ℕ) → plan ≡ []
-    → new ≡ (if fits_command (fault_at plan exchange) delays card frame then old + 1 else old) → new ≡ old
-no_command_fails plan exchange old new delays card frame none is = rw none at is
+pub no_command_fails : (plan : List Planned) (exchange old new : ℕ) (delays : Delays) (first card : Card) (frame : List ℕ) → plan ≡ []
+    → new ≡ counted (fits_command (fault_at plan exchange) delays card frame) (counted (fits_time (fault_at plan exchange) first) old)
+    → new ≡ old
+no_command_fails plan exchange old new delays first card frame none is = rw none at is

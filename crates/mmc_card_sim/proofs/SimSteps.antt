@@ -6,6 +6,7 @@ use Rattle.std.proofs.lemmas.Bool.Decides.{nat_tests}
 use Rattle.mmc_frame.proofs.Bytes.{and_true}
 use Rattle.mmc_card.specs.declared.exchange.DataIn.{DataIn}
 use Rattle.mmc_card.specs.declared.exchange.DataOut.{DataOut}
+use Rattle.mmc_card.specs.declared.exchange.Lines.{Lines}
 use Rattle.mmc_card.specs.declared.exchange.Exchange.{Exchange}
 use Rattle.mmc_card.specs.declared.exchange.Exchange.TheVariants.{Busy, Command, In, Out}
 use Rattle.mmc_card.specs.declared.exchange.Reply.{Reply}
@@ -19,8 +20,8 @@ use Rattle.mmc_card.specs.declared.command.Command.{Command as Meaning}
 use Rattle.mmc_card.specs.declared.command.Command.TheVariants as Names
 use Rattle.mmc_frame.specs.Frame.{command_in}
 use Rattle.mmc_card.specs.ErrorBits.{card_ecc_failed, com_crc_error, command_error_bits, general_error, illegal_command, wp_violation}
-use Rattle.mmc_card.specs.Faults.{AreOfExecution, CommandStep, IsPatient, MeetsBlock, MeetsCommand, PollStep, ReadStep, Spells}
-use Rattle.mmc_card.specs.Faults.{Passes, WriteStep, at_once, has_rested, has_run}
+use Rattle.mmc_card.specs.Faults.{AreOfExecution, CommandStep, IsPatient, IsTimely, MeetsBlock, MeetsCommand, PollStep, ReadStep, Spells}
+use Rattle.mmc_card.specs.Faults.{Passes, WriteStep, at_once, has_failed, has_fallen_short, has_rested, has_run}
 use Rattle.mmc_card.specs.Faults.{IsRefused, Replies, is_switch, is_switch_frame, is_transfer, is_transfer_frame}
 use Rattle.mmc_card_rows.specs.Transfers.{is_write, is_write_frame}
 use Rattle.mmc_card.specs.declared.exchange.Reply.TheVariants as Came
@@ -42,11 +43,11 @@ use Rattle.mmc_card.proofs.Passing.{block_leaves_card, card_in_time, step_leaves
 use Rattle.mmc_bus.specs.declared.wire.Wire.{Wire}
 use Rattle.mmc_bus.specs.Exchanges.{Commanded, DataRead, DataWritten, Exchanged, Polled}
 use Rattle.mmc_bus.specs.Wires.{Notes, bus_view_with}
-use Rattle.mmc_card_rows.specs.Chip.{KeepsWaits, by_itself, choice_of, command_choice, finding_protection}
+use Rattle.mmc_card_rows.specs.Chip.{KeepsWaits, by_itself, choice_of, command_choice, finding_protection, moved_on, passed}
 use Rattle.mmc_card.proofs.Cards.{in_state}
 use Rattle.mmc_card_rows.proofs.ChipLemmas.{execution_held}
 use Rattle.mmc_card_rows.specs.FaultErrors.{are_of_execution}
-use Rattle.mmc_card_sim.specs.FaultyExchanges.{failed, may_fail, may_fall_short}
+use Rattle.mmc_card_sim.specs.FaultyExchanges.{counted, failed, failed_unseen, fits_time, may_fail, may_fall_short}
 use Rattle.mmc_card_sim.specs.FaultyExchanges.{Commands, IsHeard, Polls, Reads, Writes, after_command, after_poll}
 use Rattle.mmc_card_sim.specs.FaultyExchanges.{after_read, after_write, fits_command, fits_poll, fits_read, fits_write}
 use Rattle.mmc_card_sim.specs.FaultyExchanges.{done_in, failing, heeded, is_answer, is_busy_fault, poll_choice, read_in, says_yes, written_out}
@@ -61,7 +62,7 @@ use Rattle.mmc_card_sim.specs.declared.fault.Fault.TheVariants as Is
 use Rattle.mmc_card_rows.specs.declared.fault.Outcome.TheVariants.{New, Old}
 use Rattle.mmc_card_sim.specs.declared.plan.Planned.{Planned}
 use Rattle.std.specs.Int.Bits.{or_zero_r}
-use Rattle.mmc_card.specs.Blocks.{next_block, rested, run_past, sent}
+use Rattle.mmc_card.specs.Blocks.{next_block, rested, sent}
 use Rattle.std.specs.Int.RustNames.{bit_and}
 use Rattle.std.proofs.lemmas.Nat.{and_or_apart}
 use Rattle.std.proofs.lemmas.Bool.{eqb-true, ltb-true}
@@ -104,30 +105,55 @@ gone_on old some false is = has_rested refl
 gone_on old true true is = has_run (choice_of false) 1 (rw is refl)
 gone_on old false true is = at_once refl
 
-pub time_passes : (sim : SimView) → Passes (sim_bus_view sim) (sim_bus_view (met sim))
-time_passes sim = go sim.delays.goes_on
+by_itself_passes : (old : BusView) (goes : Bool)
+    → Passes old (record old { card = if goes then by_itself old.card else old.card })
+by_itself_passes old true = gone_on old (is_some (next_block old.card)) (is_in old.card.state Data) refl
+by_itself_passes old false = at_once refl
+
+is_false : (b : Bool) → not b ≡ true → b ≡ false
+is_false true h = cc
+is_false false h = refl
+
+-- So is programming that fails with these error bits, in prg or in rcv.
+fails_unseen : (old : BusView) (bits : ℕ) (lands : ℕ → Bool) → AreOfExecution (bits / 2 ^ 13) → (programs : Bool)
+    → programs ≡ may_fail old.card → (programs || may_fall_short old.card) ≡ true
+    → Passes old (record old { card = raised (bits / 2 ^ 13) (failed lands old.card); faults = old.faults + 1 })
+fails_unseen old bits lands of true programs fits =
+    let parts = and_true (is_in old.card.state Prg) (not old.card.is_switching) (sym programs) in
+    has_failed lands (bits / 2 ^ 13) of parts.0 (is_false old.card.is_switching parts.1) (rw parts.0 refl)
+fails_unseen old bits lands of false programs fits =
+    let parts = and_true (is_in old.card.state Rcv) _ fits in
+    has_fallen_short lands (bits / 2 ^ 13) false of parts.0 (and_true old.card.is_busy _ parts.1).0
+    (rw (in_state old.card.state Rcv parts.0) refl)
+
+unseen : (fault : Option Fault) (old : BusView) → fits_time fault old.card ≡ true
+    → Passes old (record old { card = failed_unseen fault old.card; faults = old.faults + 1 })
+unseen (Some (Is.FailUnseen outcome bits)) old fits =
+    let parts = and_true (are_of_execution bits) (may_fail old.card || may_fall_short old.card) fits in
+    fails_unseen old bits (lands_by outcome) (execution_held bits parts.0) (may_fail old.card) refl parts.1
+unseen _ old fits = cc
+
+pub time_passes : (fault : Option Fault) (sim : SimView) → Passes (sim_bus_view sim) (sim_bus_view (met fault sim))
+time_passes fault sim = go (fits_time fault sim.card) refl
   where
-    go : (goes : Bool)
-        → Passes (sim_bus_view sim) (record (sim_bus_view sim) { card = if goes then by_itself sim.card else sim.card })
-    go true = gone_on (sim_bus_view sim) (is_some (next_block sim.card)) (is_in sim.card.state Data) refl
-    go false = at_once refl
-
-commands_at_once : (old : BusView) (frame : List ℕ) (reply : Reply) (new : BusView) → MeetsCommand old frame reply new
-    → CommandStep old frame reply new
-commands_at_once old frame reply new meets = record { met = old; passes = at_once refl; meets = meets }
-
-writes_at_once : (old : BusView) (block : List ℕ) (got : DataOut) (new : BusView) → MeetsBlock old block got new
-    → WriteStep old block got new
-writes_at_once old block got new meets = record { met = old; passes = at_once refl; meets = meets }
+    go : (fits : Bool) → fits_time fault sim.card ≡ fits
+        → Passes (sim_bus_view sim) (record (sim_bus_view sim) {
+          card = if fits then failed_unseen fault sim.card else passed sim.delays sim.card;
+          faults = counted fits sim.faults;
+        })
+    go true fits = unseen fault (sim_bus_view sim) fits
+    go false other = by_itself_passes (sim_bus_view sim) sim.delays.goes_on
 
 -- Commands.
 
 few_times : (limit times : ℕ) → limit ≤ patience → nat_lt times limit ≡ true → times < patience
 few_times limit times few less = grind (arith, nat_tests, few, less)
 
-soon_ready : (delays : Delays) (card : Card) → delays.ready ≤ patience
-    → IsPatient (command_choice delays card) card.inquiries
-soon_ready delays card few slow = few_times delays.ready card.inquiries few slow
+timely : (delays : Delays) (card : Card) → delays.ready ≤ patience → IsTimely (command_choice delays card) card
+timely delays card few = (
+  λ slow. few_times delays.ready card.inquiries few slow,
+  λ behind. few_times patience card.polled (omega arith) (and_true (nat_lt card.polled patience) _ behind).0,
+)
 
 -- A switch that fails.
 
@@ -342,7 +368,7 @@ module _ (plan : List Planned) (old new : Card) (delays : Delays) (soon : delays
   left_over left frame reply among some one card heard =
       let choice = command_choice delays old in
       let e = sym (left_alone left old) in
-      show_errors choice left 0 among refl some (inl refl) (soon_ready delays old soon, refl, finds_none) one
+      show_errors choice left 0 among refl some (inl refl) (timely delays old soon, refl, finds_none) one
       (card ∙ ap (λ (c : Card). (answered choice c (command_in frame)).0) e)
       (subst (λ (c : Card). Replies old (answered choice c (command_in frame)).1 reply) e (_, said_is old.made.kind delays _, heard))
 
@@ -354,22 +380,22 @@ module _ (plan : List Planned) (old new : Card) (delays : Delays) (soon : delays
   command_fault (Some Is.LoseCommand) frame reply one fits card heard = lose_command one card heard
   command_fault (Some (Is.FlipCommand flips)) frame reply one fits card heard = flip_command false one card heard
   command_fault (Some Is.LoseReply) frame reply one fits card heard =
-      lose_reply (command_choice delays old) (soon_ready delays old soon) one card
+      lose_reply (command_choice delays old) (timely delays old soon) one card
       (λ none. cc (ap (λ answer. is_answer (said_as delays answer)) none, fits)) (nothing_heard _ _ reply heard)
   command_fault (Some (Is.FlipReply flips)) frame reply one fits card heard =
       let lost = lost_by_flips laws (command_choice delays old) delays old (command_in frame) flips reply k fits heard in
-      lose_reply (command_choice delays old) (soon_ready delays old soon) one card lost.0 lost.1
+      lose_reply (command_choice delays old) (timely delays old soon) one card lost.0 lost.1
   command_fault (Some Is.FailSwitch) frame reply one fits card heard = failed_switch false frame reply one fits card heard
   command_fault (Some Is.FailSwitchLate) frame reply one fits card heard =
       failed_switch true frame reply one fits card heard
   command_fault (Some Is.LoseFailedSwitch) frame reply one fits card heard =
       let is = fails_to_switch (failing_choice false delays old) old (command_in frame) refl refl fits in
-      lose_reply (failing_choice false delays old) (soon_ready delays old soon) one
+      lose_reply (failing_choice false delays old) (timely delays old soon) one
       (card ∙ ap (λ (x : Card × CardAnswer). x.0) is)
       (λ none. cc (ap (λ (x : Card × CardAnswer). x.1) is, none)) (nothing_heard _ _ reply heard)
   command_fault (Some Is.FindProtection) frame reply one fits card heard =
       find_error (command_choice (finding_protection delays) old) (refl, λ none. cc)
-      (soon_ready (finding_protection delays) old soon)
+      (timely (finding_protection delays) old soon).0
       (writes_transfer old (command_in frame) (and_true (is_write_frame old (command_in frame)) (is_in old.state Tran) fits).0) one card
       (_, said_is old.made.kind (finding_protection delays) _, heard)
   command_fault (Some (Is.LeaveOver ComCrc)) frame reply one fits card heard =
@@ -385,11 +411,12 @@ module _ (plan : List Planned) (old new : Card) (delays : Delays) (soon : delays
       let e = sym (found_alone found old) in
       show_errors choice 0 found refl of.0 (λ none. of.1 (omega (arith, none)))
       (inr (ap (λ (c : Card). c.errors) card ∙ clears_all choice (raised found old) (command_in frame) there.0 there.1))
-      (soon_ready delays old soon, refl, finds_none) one
+      (timely delays old soon, refl, finds_none) one
       (card ∙ ap (λ (c : Card). (answered choice c (command_in frame)).0) e)
       (subst (λ (c : Card). Replies old (answered choice c (command_in frame)).1 reply) e (_, said_is old.made.kind delays _, heard))
   command_fault (Some (Is.Brownout outcome)) frame reply one fits card heard =
-      command_brownout (choice_of false) (lands_by outcome) delays.keeps_length false (λ slow. absurd cc, refl, refl) one card
+      command_brownout (choice_of false) (lands_by outcome) delays.keeps_length false
+      ((λ slow. absurd cc, λ behind. absurd cc), refl, refl) one card
       (nothing_heard _ _ reply heard)
   command_fault (Some Is.BadBlock) frame reply one fits card heard = cc
   command_fault (Some Is.NoBlock) frame reply one fits card heard = cc
@@ -403,27 +430,17 @@ module _ (plan : List Planned) (old new : Card) (delays : Delays) (soon : delays
   command_fault (Some Is.LoseBlock) frame reply one fits card heard = cc
   command_fault (Some Is.RejectBusy) frame reply one fits card heard = cc
   command_fault (Some (Is.FailEarly outcome bits)) frame reply one fits card heard = cc
+  command_fault (Some (Is.FailUnseen outcome bits)) frame reply one fits card heard = cc
 
   pub command_met : (fault : Option Fault) (frame : List ℕ) (reply : Reply) (fell : Bool)
       → later ≡ (if fell then faults + 1 else faults)
       → Commands fault delays old frame reply fell new
       → MeetsCommand (kept_with plan old faults before) frame reply (kept_with plan new later after)
   command_met fault frame reply false counts does =
-      does_command (command_choice delays old) (soon_ready delays old soon, refl, finds_none) counts (does.card refl)
+      does_command (command_choice delays old) (timely delays old soon, refl, finds_none) counts (does.card refl)
       (_, said_is old.made.kind delays _, does.answer refl)
   command_met fault frame reply true counts does =
       command_fault fault frame reply counts (sym does.fell_is) (does.fault_card refl) (does.fault_reply refl)
-
-  pub commanded : (fault : Option Fault) (frame : List ℕ) (want : Want) (reply : Reply) (fell : Bool)
-      → later ≡ (if fell then faults + 1 else faults) → Commands fault delays old frame reply fell new
-      → Notes before (Command frame want reply) after
-      → later + to_come plan after.exchanges ≤ faults + to_come plan before.exchanges
-      → Commanded (kept_with plan old faults before) frame want reply (kept_with plan new later after) × IsCard new
-  commanded fault frame want reply fell counts does notes in_bounds =
-      let step = commands_at_once _ frame reply _ (command_met fault frame reply fell counts does) in
-      let is = step_leaves_card (kept_with plan old faults before) frame reply (kept_with plan new later after)
-      step k in
-      (exchanged plan old new faults later before after (Command frame want reply) notes in_bounds k is step, is)
 
 -- Blocks.
 
@@ -466,6 +483,7 @@ module _ (plan : List Planned) (old new : Card) (delays : Delays) (faults later 
   read_fault (Some Is.LoseBlock) size got block one fits card answer = cc
   read_fault (Some Is.RejectBusy) size got block one fits card answer = cc
   read_fault (Some (Is.FailEarly outcome bits)) size got block one fits card answer = cc
+  read_fault (Some (Is.FailUnseen outcome bits)) size got block one fits card answer = cc
 
   read_step : (fault : Option Fault) (size : ℕ) (got : DataIn) (block : List ℕ) (fell : Bool)
       → later ≡ (if fell then faults + 1 else faults)
@@ -525,6 +543,7 @@ module _ (plan : List Planned) (old new : Card) (delays : Delays) (faults later 
   write_fault (Some Is.LoseFailedSwitch) block got one fits card answer = cc
   write_fault (Some Is.FindProtection) block got one fits card answer = cc
   write_fault (Some (Is.FailEarly outcome bits)) block got one fits card answer = cc
+  write_fault (Some (Is.FailUnseen outcome bits)) block got one fits card answer = cc
 
   pub block_met : (fault : Option Fault) (block : Sector) (got : DataOut) (fell : Bool)
       → later ≡ (if fell then faults + 1 else faults)
@@ -533,17 +552,6 @@ module _ (plan : List Planned) (old new : Card) (delays : Delays) (faults later 
   block_met fault block got false counts does = does_write counts (does.card refl) (does.got_is refl)
   block_met fault block got true counts does =
       write_fault fault block got counts (sym does.fell_is) (does.fault_card refl) (does.fault_got refl)
-
-  pub data_written : (fault : Option Fault) (block : Sector) (got : DataOut) (fell : Bool)
-      → later ≡ (if fell then faults + 1 else faults)
-      → Writes fault delays old before.lines block got fell new → IsBlock block → IsCard old → Notes before (Out got) after
-      → later + to_come plan after.exchanges ≤ faults + to_come plan before.exchanges
-      → DataWritten (kept_with plan old faults before) block got (kept_with plan new later after) × IsCard new
-  data_written fault block got fell counts does size k notes in_bounds =
-      let step = writes_at_once _ block got _ (block_met fault block got fell counts does) in
-      let is = block_leaves_card (kept_with plan old faults before) block got (kept_with plan new later after)
-      size step k in
-      (exchanged plan old new faults later before after (Out got) notes in_bounds k is step, is)
 
 -- Polls.
 
@@ -558,10 +566,6 @@ soon_rested : (fault : Option Fault) (delays : Delays) (card : Card) → delays.
     → IsPatient (poll_choice fault delays card) card.polled
 soon_rested fault delays card few slow =
     slow_within (nat_lt card.polled delays.busy) (is_busy_fault fault) delays.busy card.polled few refl slow
-
-is_false : (b : Bool) → not b ≡ true → b ≡ false
-is_false true h = cc
-is_false false h = refl
 
 at_least : (limit times : ℕ) → nat_le limit times ≡ true → limit ≤ times
 at_least limit times h = grind (arith, nat_tests, h)
@@ -621,6 +625,7 @@ module _ (plan : List Planned) (old new : Card) (delays : Delays) (soon : delays
   poll_fault (Some Is.FindProtection) said one fits card is = cc
   poll_fault (Some Is.LoseBlock) said one fits card is = cc
   poll_fault (Some Is.RejectBusy) said one fits card is = cc
+  poll_fault (Some (Is.FailUnseen outcome bits)) said one fits card is = cc
 
   poll_step : (fault : Option Fault) (said fell : Bool) → later ≡ (if fell then faults + 1 else faults)
       → Polls fault delays old said fell new
@@ -700,60 +705,86 @@ still_ok old new fault fell exchange ok waits plan is unplanned counts notes car
   never = rw plan ok.never;
 }
 
--- What comes before an exchange.
+-- The exchanges before which time passes.
 
-pub met_is_ok : (sim : SimView) (delays : Delays) → SimOk sim → KeepsWaits sim.delays delays
-    → SimOk (record sim { card = card_met sim; delays = delays })
-met_is_ok sim delays ok waits = record {
-  is_card = card_in_time _ _ (time_passes sim) ok.is_card;
-  soon_ready = rw waits.ready ok.soon_ready;
-  soon_rested = rw waits.busy ok.soon_rested;
-  unprotected = waits.finds_protection ∙ ok.unprotected;
-  few = ok.few;
-  bounded = ok.bounded;
-  never = ok.never;
-}
+-- no fault falls in the time that fits what comes after it too
+pub no_command_fits : (fault : Option Fault) (first : Card) (delays : Delays) (card : Card) (frame : List ℕ)
+    → fits_time fault first ≡ true → fits_command fault delays card frame ≡ false
+no_command_fits (Some (Is.FailUnseen outcome bits)) first delays card frame fits = refl
+no_command_fits _ first delays card frame fits = cc
 
--- An exchange of a card that time has passed for.
+pub no_write_fits : (fault : Option Fault) (first card : Card) (lines : Lines) → fits_time fault first ≡ true
+    → fits_write fault card lines ≡ false
+no_write_fits (Some (Is.FailUnseen outcome bits)) first card lines fits = refl
+no_write_fits _ first card lines fits = cc
 
-pub commanded_in_time : (sim later : SimView) (frame : List ℕ) (want : Want) (reply : Reply) (new : BusView) → IsCard sim.card
-    → later ≡ met sim → MeetsCommand (sim_bus_view later) frame reply new
-    → Commanded (sim_bus_view later) frame want reply new → Commanded (sim_bus_view sim) frame want reply new
-commanded_in_time sim later frame want reply new was is meets e =
-    let met_so = subst (λ (s : SimView). MeetsCommand (sim_bus_view s) frame reply new) is meets in
-    let did = subst (λ (s : SimView). Commanded (sim_bus_view s) frame want reply new) is e in
-    record {
-      lines = did.lines;
-      limits = did.limits;
-      last = did.last;
-      exchanges = did.exchanges;
-      kept = λ kept.
-          record {
-            was_kept = refl;
-            was_card = was;
-            step = record { met = sim_bus_view (met sim); passes = time_passes sim; meets = met_so };
-            is_card = (did.kept kept).is_card;
-            bounded = (did.kept kept).bounded;
-          };
-    }
+-- so it is counted once
+counted_once : (unseen later : Bool) (faults : ℕ) → (unseen ≡ true → later ≡ false)
+    → counted (unseen || later) faults ≡ counted later (counted unseen faults)
+counted_once true true faults apart = cc (apart refl)
+counted_once true false faults apart = refl
+counted_once false later faults apart = refl
 
-pub written_in_time : (sim later : SimView) (block : Sector) (got : DataOut) (new : BusView) → IsCard sim.card
-    → later ≡ met sim → MeetsBlock (sim_bus_view later) block got new
-    → DataWritten (sim_bus_view later) block got new → DataWritten (sim_bus_view sim) block got new
-written_in_time sim later block got new was is meets e =
-    let met_so = subst (λ (s : SimView). MeetsBlock (sim_bus_view s) block got new) is meets in
-    let did = subst (λ (s : SimView). DataWritten (sim_bus_view s) block got new) is e in
-    record {
-      lines = did.lines;
-      limits = did.limits;
-      last = did.last;
-      exchanges = did.exchanges;
-      kept = λ kept.
-          record {
-            was_kept = refl;
-            was_card = was;
-            step = record { met = sim_bus_view (met sim); passes = time_passes sim; meets = met_so };
-            is_card = (did.kept kept).is_card;
-            bounded = (did.kept kept).bounded;
-          };
-    }
+-- none falls that isn't planned
+pub none_planned : (fault : Option Fault) (unseen later : Bool) (first : Card) → unseen ≡ fits_time fault first
+    → (fault ≡ None → later ≡ false) → fault ≡ None → (unseen || later) ≡ false
+none_planned fault unseen later first is unplanned none =
+    let no_time : unseen ≡ false = is ∙ ap (λ f. fits_time f first) none in rw no_time (unplanned none)
+
+-- they are steps of the card as it was before
+module _ (sim : SimView) (ok : SimOk sim) (fault : Option Fault) (delays : Delays) (waits : KeepsWaits sim.delays delays) (met_card : Card)
+    (before : Bool) (is : met_card ≡ card_met fault sim) (was : before ≡ fits_time fault sim.card) (new : Card) (fell : Bool) (later : ℕ)
+    (after : Wire) (counts : later ≡ counted (before || fell) sim.faults) where
+  met_is : kept_with sim.plan met_card (counted before sim.faults) sim.wire ≡ sim_bus_view (met fault sim)
+  met_is =
+      ap (λ (c : Card). kept_with sim.plan c (counted before sim.faults) sim.wire) is
+      ∙ ap (λ b. kept_with sim.plan (card_met fault sim) (counted b sim.faults) sim.wire) was
+
+  met_is_card : IsCard met_card
+  met_is_card = subst IsCard (sym is) (card_in_time _ _ (time_passes fault sim) ok.is_card)
+
+  counted_then : (fits_time fault sim.card ≡ true → fell ≡ false) → later ≡ counted fell (counted before sim.faults)
+  counted_then apart = counts ∙ counted_once before fell sim.faults (λ did. apart (sym was ∙ did))
+
+  -- as the planned fault says it
+  pub counts_as : (fits : Delays → Card → Bool) → (fits_time fault sim.card ≡ true → fell ≡ false) → fell ≡ fits delays met_card
+      → delays ≡ moved_on sim.delays sim.card.state met_card.state
+      → later ≡ counted (fits (met fault sim).delays (met fault sim).card) (met fault sim).faults
+  counts_as fits apart fell_is moved =
+      counted_then apart
+      ∙ ap (λ b. counted b (counted before sim.faults)) (fell_is ∙ ap (λ d. fits d met_card) moved
+      ∙ ap (λ (c : Card). fits (moved_on sim.delays sim.card.state c.state) c) is)
+      ∙ ap (λ b. counted (fits (met fault sim).delays (met fault sim).card) (counted b sim.faults)) was
+
+  pub commanded : FlipLaws → (frame : List ℕ) (want : Want) (reply : Reply) → Commands fault delays met_card frame reply fell new
+      → Notes sim.wire (Command frame want reply) after
+      → later + to_come sim.plan after.exchanges ≤ sim.faults + to_come sim.plan sim.wire.exchanges
+      → Commanded (sim_bus_view sim) frame want reply (kept_with sim.plan new later after) × IsCard new
+  commanded laws frame want reply does notes in_bounds =
+      let now = kept_with sim.plan new later after in
+      let meets : MeetsCommand (sim_bus_view (met fault sim)) frame reply now =
+      subst (λ (m : BusView). MeetsCommand m frame reply now) met_is
+      (command_met sim.plan met_card new delays (rw waits.ready ok.soon_ready) (waits.finds_protection ∙ ok.unprotected) met_is_card laws
+      (counted before sim.faults) later sim.wire after fault frame reply fell
+      (counted_then (λ fits. does.fell_is ∙ no_command_fits fault sim.card delays met_card frame fits)) does) in
+      let step : CommandStep (sim_bus_view sim) frame reply now =
+      record { met = sim_bus_view (met fault sim); passes = time_passes fault sim; meets = meets } in
+      let new_is = step_leaves_card (sim_bus_view sim) frame reply now step ok.is_card in (
+        exchanged sim.plan sim.card new sim.faults later sim.wire after (Command frame want reply) notes in_bounds ok.is_card new_is step,
+        new_is,
+      )
+
+  pub data_written : (block : Sector) (got : DataOut) → Writes fault delays met_card sim.wire.lines block got fell new
+      → IsBlock block → Notes sim.wire (Out got) after
+      → later + to_come sim.plan after.exchanges ≤ sim.faults + to_come sim.plan sim.wire.exchanges
+      → DataWritten (sim_bus_view sim) block got (kept_with sim.plan new later after) × IsCard new
+  data_written block got does size notes in_bounds =
+      let now = kept_with sim.plan new later after in
+      let meets : MeetsBlock (sim_bus_view (met fault sim)) block got now =
+      subst (λ (m : BusView). MeetsBlock m block got now) met_is
+      (block_met sim.plan met_card new delays (counted before sim.faults) later sim.wire after fault block got fell
+      (counted_then (λ fits. does.fell_is ∙ no_write_fits fault sim.card met_card sim.wire.lines fits)) does) in
+      let step : WriteStep (sim_bus_view sim) block got now =
+      record { met = sim_bus_view (met fault sim); passes = time_passes fault sim; meets = meets } in
+      let new_is = block_leaves_card (sim_bus_view sim) block got now size step ok.is_card in
+      (exchanged sim.plan sim.card new sim.faults later sim.wire after (Out got) notes in_bounds ok.is_card new_is step, new_is)

@@ -1,6 +1,6 @@
 -- What the card in memory does in an exchange for which a fault may be planned: the fault falls where it fits, and
 -- otherwise the exchange is a faithful step.
-use Rattle.std.specs.Prelude.{◌&&◌, ◌/◌, ◌^◌, ◌||◌, ◌≡◌, Bool, List, Option, Some, false}
+use Rattle.std.specs.Prelude.{◌&&◌, ◌+◌, ◌/◌, ◌^◌, ◌||◌, ◌≡◌, Bool, List, Option, Some, false}
 use Rattle.std.specs.Prelude.{None, if◌then◌else◌, length, nat_le, nat_lt, not, true, ℕ}
 use Rattle.mmc_frame.specs.Frame.{command_in}
 use Rattle.mmc_frame.specs.declared.card_state.State.TheVariants.{Prg, Rcv, Tran}
@@ -23,7 +23,7 @@ use Rattle.mmc_card.specs.declared.command.Command.TheVariants.{Switch}
 use Rattle.mmc_card_rows.specs.Answer.{said_as}
 use Rattle.mmc_card_sim.specs.FlippedReplies.{IsHeardFlipped, can_flip, is_flip}
 use Rattle.mmc_card_rows.specs.FaultErrors.{are_of_execution, error_bit}
-use Rattle.mmc_card_rows.specs.Chip.{Sends, choice_of, command_choice, finding_protection}
+use Rattle.mmc_card_rows.specs.Chip.{Sends, choice_of, command_choice, finding_protection, passed}
 use Rattle.mmc_card_rows.specs.Store.{lands_by}
 use Rattle.mmc_card_rows.specs.Transfers.{is_write_frame}
 use Rattle.mmc_card_rows.specs.declared.delays.Delays.{Delays}
@@ -32,7 +32,7 @@ use Rattle.mmc_card_sim.specs.declared.fault.Fault.{Fault}
 use Rattle.mmc_card_sim.specs.declared.fault.Fault.TheVariants.{BadBlock, Brownout, Busy, Fail, FailWith, FlipCommand}
 use Rattle.mmc_card_sim.specs.declared.fault.Fault.TheVariants.{FailSwitch, FailSwitchLate, FlipReply, LeaveOver}
 use Rattle.mmc_card_sim.specs.declared.fault.Fault.TheVariants.{LoseCommand, LoseReply, LoseStatus, NoBlock, ReadError}
-use Rattle.mmc_card_sim.specs.declared.fault.Fault.TheVariants.{FailEarly, FindProtection, LoseBlock, LoseFailedSwitch}
+use Rattle.mmc_card_sim.specs.declared.fault.Fault.TheVariants.{FailEarly, FailUnseen, FindProtection, LoseBlock, LoseFailedSwitch}
 use Rattle.mmc_card_sim.specs.declared.fault.Fault.TheVariants.{Reject, RejectAll, RejectBusy, ShowError}
 use Rattle.mmc_card_rows.specs.declared.fault.Outcome.TheVariants.{New}
 
@@ -244,3 +244,22 @@ pub record Polls (fault : Option Fault) (delays : Delays) (old : Card) (said fel
   pub fault_said : fell ≡ true → said ≡ says_yes fault
   pub card : fell ≡ false → new ≡ (polled_once (poll_choice fault delays old) old).0
   pub said_is : fell ≡ false → said ≡ (polled_once (poll_choice fault delays old) old).1
+
+-- The time before a command, and before a block that is written.
+
+-- programming fails in it, as it may at a poll
+abbrev pub fits_time : Option Fault → Card → Bool
+fits_time (Some (FailUnseen outcome bits)) card = can_fail_with bits card
+fits_time _ card = false
+
+abbrev pub failed_unseen : Option Fault → Card → Card
+failed_unseen (Some (FailUnseen outcome bits)) card = raised (bits / 2 ^ 13) (failed (lands_by outcome) card)
+failed_unseen _ card = card
+
+-- otherwise a card that goes on by itself has done so
+abbrev pub after_time : Option Fault → Delays → Card → Card
+after_time fault delays card = if fits_time fault card then failed_unseen fault card else passed delays card
+
+-- how many faults have fallen, with one more or none
+abbrev pub counted : Bool → ℕ → ℕ
+counted fell faults = if fell then faults + 1 else faults

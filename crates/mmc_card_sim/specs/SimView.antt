@@ -8,8 +8,9 @@ use Rattle.mmc_card.specs.BusView.{BusView}
 use Rattle.mmc_card.specs.Card.{Card, IsCard, patience}
 use Rattle.mmc_card.specs.Made.{erased_byte_of_card}
 use Rattle.mmc_card_sim.specs.CardSpec.{sizes_of}
+use Rattle.mmc_card_sim.specs.FaultyExchanges.{after_time, counted, fits_time}
 use Rattle.mmc_card_sim.specs.Plan.{fault_at, to_come}
-use Rattle.mmc_card_rows.specs.Chip.{moved_on, passed}
+use Rattle.mmc_card_rows.specs.Chip.{moved_on}
 use Rattle.mmc_card_rows.specs.Registers.{first_life_time, last_rca_by, made_of, rca_changes_by}
 use Rattle.mmc_card_rows.specs.SectorLists.{first_sectors}
 use Rattle.mmc_card_rows.specs.Sizes.{total}
@@ -56,12 +57,18 @@ first_delays spec =
       finds_protection = false;
     }
 
--- as the next command, or the next block that is written, meets it: a card that goes on by itself has done so
-abbrev pub card_met : SimView → Card
-card_met sim = passed sim.delays sim.card
+-- As the next command, or the next block that is written, meets it, for which this fault is planned: a card that goes on by itself
+-- has done so, or its programming has failed, and nobody has seen it.
+abbrev pub card_met : Option Fault → SimView → Card
+card_met fault sim = after_time fault sim.delays sim.card
 
-abbrev pub met : SimView → SimView
-met sim = record sim { card = card_met sim; delays = moved_on sim.delays sim.card.state (card_met sim).state }
+abbrev pub met : Option Fault → SimView → SimView
+met fault sim =
+    record sim {
+      card = card_met fault sim;
+      delays = moved_on sim.delays sim.card.state (card_met fault sim).state;
+      faults = counted (fits_time fault sim.card) sim.faults;
+    }
 
 -- It is a card, whose own delays are fifteen exchanges at most, and which finds no sectors protected of its own; no more faults have fallen than exchanges were made, and none
 -- is planned for the number at which their count stays.

@@ -59,6 +59,9 @@ pub enum Fault {
     FailWith(Outcome, u32),
     /// Programming fails with these error bits, and so early that the card is busy still, as it answers.
     FailEarly(Outcome, u32),
+    /// Programming fails with these error bits in the time before a command or before a block that is written, so that nobody
+    /// has seen it when the card meets that: of a write, erase or trim, or of an earlier block of a write that goes on.
+    FailUnseen(Outcome, u32),
     /// A poll of a busy card is answered yes. It counts as a fault from the sixteenth yes of one busy time on.
     Busy,
     /// The power fails: no answer, and then the card is as after CMD0.

@@ -5,7 +5,7 @@ ghost use Rattle.mmc_card_rows.specs.FaultErrors.{are_of_execution};
 ghost use Rattle.mmc_card_sim.specs.declared.fault.Fault.TheVariants.{FindProtection, FlipReply, LoseReply};
 ghost use Rattle.mmc_card.specs.CardAnswer.{raised};
 ghost use Rattle.mmc_card_sim.specs.FaultyExchanges.{Commands, Polls, Reads, Spoils, Writes, can_fail_early, can_fail_with};
-ghost use Rattle.mmc_card_sim.specs.FaultyExchanges.{failed, heeded, is_slow_at};
+ghost use Rattle.mmc_card_sim.specs.FaultyExchanges.{after_time, failed, fits_time, heeded, is_slow_at};
 ghost use Rattle.mmc_card_rows.specs.Store.{lands_by};
 ghost use Rattle.mmc_card_rows.specs.Chip.{Answers, card_of};
 
@@ -258,6 +258,24 @@ pub fn faulty_poll(chip: &mut Chip, fault: Option<Fault>, delays: Delays) -> (bo
         _ => {
             let is_slow = is_slow_at(chip, fault, delays);
             (chip.poll(is_slow), false)
+        }
+    }
+}
+
+/// What happens before a command, and before a block that is written: programming fails, or time passes as the card goes on
+/// by itself.
+pub fn faulty_time(chip: &mut Chip, fault: Option<Fault>, delays: Delays) -> bool
+    ensures fell { result ≡ fits_time fault (card_of chip.old) }
+    ensures card { card_of chip.new ≡ after_time fault delays (card_of chip.old) }
+{
+    match fault {
+        Some(Fault::FailUnseen(outcome, bits)) if can_fail_with(chip, bits) => {
+            fail_at_once(chip, outcome, bits);
+            true
+        }
+        _ => {
+            chip.pass_time(delays);
+            false
         }
     }
 }

@@ -3,12 +3,15 @@ ghost use Rattle.std.specs.Prelude.{◌+◌, ◌-◌, ◌<◌, ◌==◌, ◌^◌
 ghost use Rattle.std.specs.Prelude.{false, if◌then◌else◌, length, slice_get, true, ℕ};
 ghost use Rattle.mmc_card_sim.specs.Plan.{fault_at, refusal_of, to_come};
 ghost use Rattle.mmc_card_sim.specs.FaultyExchanges.{Commands, Polls, Reads, Writes, fits_command, fits_poll};
-ghost use Rattle.mmc_card_sim.specs.FaultyExchanges.{fits_read, fits_write};
-ghost use Rattle.mmc_card_sim.specs.SimView.{card_met, first_delays, met, planned_fault, sim_bus_view};
+ghost use Rattle.mmc_card_sim.specs.FaultyExchanges.{after_time, counted, fits_read, fits_time, fits_write};
+ghost use Rattle.mmc_card_rows.specs.Chip.{KeepsWaits, card_of, moved_on};
+ghost use Rattle.mmc_card_sim.specs.SimView.{first_delays, met, planned_fault, sim_bus_view};
 ghost use Rattle.mmc_card_rows.specs.declared.store.TheConstants.{MAX_LARGE};
 
 use crate::fault::Fault;
-use crate::faulty_exchanges::{faulty_accept, faulty_command, faulty_poll, faulty_send};
+use crate::faulty_exchanges::{
+    faulty_accept, faulty_command, faulty_poll, faulty_send, faulty_time,
+};
 use crate::judging::judge;
 use crate::moving::is_answered;
 use crate::plan::{Plan, PlanFault};
@@ -47,9 +50,22 @@ fn first_delays(spec: &CardSpec) -> Delays
 // How many faults have fallen, with one more or none.
 fn counted(faults: u64, fell: bool) -> u64
     requires { fell ≡ true → faults < 2 ^ 64 - 1 }
-    ensures { result ≡ (if fell then faults + 1 else faults) }
+    ensures { result ≡ counted fell faults }
 {
     if fell { faults + 1 } else { faults }
+}
+
+// What has happened since the last exchange, and whether a fault was among it.
+fn pass_time(chip: &mut Chip, delays: &mut Delays, fault: Option<Fault>) -> bool
+    ensures fell { result ≡ fits_time fault (card_of chip.old) }
+    ensures card { card_of chip.new ≡ after_time fault delays.old (card_of chip.old) }
+    ensures delays { delays.new ≡ moved_on delays.old chip.old.state chip.new.state }
+    ensures waits { KeepsWaits delays.old delays.new }
+{
+    let state = chip.state;
+    let fell = faulty_time(chip, fault, *delays);
+    delays.note_state(state, chip.state);
+    fell
 }
 
 /// A card of any kind, with the faults that are planned for its exchanges: each falls in its exchange where it fits,
@@ -90,9 +106,8 @@ impl SimCard {
     ghost use Rattle.mmc_bus.specs.Exchanges.{Commanded, DataRead, DataWritten, Polled};
     ghost use Rattle.mmc_bus.specs.Wires.{IsUnused};
     ghost use Rattle.mmc_frame.specs.Frame.{command_in};
-    ghost use Rattle.mmc_card.specs.Faults.{MeetsBlock, MeetsCommand};
     ghost use Rattle.mmc_card.specs.Card.{HasItsSizes, IsCard, patience, powered_on, stored};
-    ghost use Rattle.mmc_card_rows.specs.Chip.{card_of, delays_after, moved_on};
+    ghost use Rattle.mmc_card_rows.specs.Chip.{delays_after};
     ghost use Rattle.mmc_card_sim.specs.CardSpec.{IsRefusal, IsRefusalWithin, refusal_of as spec_refusal};
     ghost use Rattle.mmc_card_sim.specs.CardSpec.{refusal_within};
     ghost use Rattle.mmc_card_rows.specs.Registers.{made_of};
@@ -252,27 +267,16 @@ impl SimCard {
         self.plan.forget_past(self.wire.exchanges);
     }
 
-    // What the card has done by itself since the last exchange.
-    fn pass_time(&mut self)
-        ensures card { IsCard self.old.card }
-        ensures met { self.new ≡ met self.old }
-    {
-        let state = self.chip.state;
-        self.chip.pass_time(self.delays);
-        self.delays.note_state(state, self.chip.state);
-    }
-
-    // A command, as the card meets it.
-    fn meet_command(&mut self, frame: [u8; 6], want: Want) -> Reply
+    /// Sends a command, and gives what came back, whatever response is wanted.
+    pub fn command(&mut self, frame: [u8; 6], want: Want) -> Reply
         ensures exchanged { Commanded (sim_bus_view self.old) frame want result (sim_bus_view self.new) }
-        ensures meets { MeetsCommand (sim_bus_view self.old) frame result (sim_bus_view self.new) }
-        ensures does { Commands (planned_fault self.old) self.old.delays self.old.card frame result
-            (fits_command (planned_fault self.old) self.old.delays self.old.card frame) self.new.card }
-        ensures counts { self.new.faults
-            ≡ (if fits_command (planned_fault self.old) self.old.delays self.old.card frame
-            then self.old.faults + 1 else self.old.faults) }
-        ensures delays { self.new.delays
-            ≡ moved_on (delays_after self.old.delays (command_in frame) self.new.card.rca) self.old.card.state
+        ensures does { let before = met (planned_fault self.old) self.old in
+            Commands (planned_fault self.old) before.delays before.card frame result
+            (fits_command (planned_fault self.old) before.delays before.card frame) self.new.card }
+        ensures counts { let before = met (planned_fault self.old) self.old in
+            self.new.faults ≡ counted (fits_command (planned_fault self.old) before.delays before.card frame) before.faults }
+        ensures delays { let before = met (planned_fault self.old) self.old in
+            self.new.delays ≡ moved_on (delays_after before.delays (command_in frame) self.new.card.rca) before.card.state
             self.new.card.state }
         ensures plan { self.new.plan ≡ self.old.plan }
     {
@@ -281,30 +285,14 @@ impl SimCard {
         frame_laws::flipped_beside_the_ocr_is_refused();
         frame_laws::register_comes_back();
         let fault = self.plan.fault(self.wire.exchanges);
+        let unseen = pass_time(&mut self.chip, &mut self.delays, fault);
         let state = self.chip.state;
         let (reply, fell) = faulty_command(&mut self.chip, fault, self.delays, &frame);
         self.delays.note_command(&frame, self.chip.rca);
         self.delays.note_state(state, self.chip.state);
-        self.faults = counted(self.faults, fell);
+        self.faults = counted(self.faults, unseen | fell);
         self.wire.note(Exchange::Command { frame, want, reply });
         reply
-    }
-
-    /// Sends a command, and gives what came back, whatever response is wanted.
-    pub fn command(&mut self, frame: [u8; 6], want: Want) -> Reply
-        ensures exchanged { Commanded (sim_bus_view self.old) frame want result (sim_bus_view self.new) }
-        ensures does { Commands (planned_fault self.old) (met self.old).delays (card_met self.old) frame result
-            (fits_command (planned_fault self.old) (met self.old).delays (card_met self.old) frame) self.new.card }
-        ensures counts { self.new.faults
-            ≡ (if fits_command (planned_fault self.old) (met self.old).delays (card_met self.old) frame
-            then self.old.faults + 1 else self.old.faults) }
-        ensures delays { self.new.delays
-            ≡ moved_on (delays_after (met self.old).delays (command_in frame) self.new.card.rca) (card_met self.old).state
-            self.new.card.state }
-        ensures plan { self.new.plan ≡ self.old.plan }
-    {
-        self.pass_time();
-        self.meet_command(frame, want)
     }
 
     /// Reads a block of the buffer's length.
@@ -330,40 +318,26 @@ impl SimCard {
         got
     }
 
-    // A block that is written, as the card meets it.
-    fn meet_block(&mut self, block: &[u8; 512]) -> DataOut
-        ensures exchanged { DataWritten (sim_bus_view self.old) block.now result (sim_bus_view self.new) }
-        ensures meets { MeetsBlock (sim_bus_view self.old) block.now result (sim_bus_view self.new) }
-        ensures does { Writes (planned_fault self.old) self.old.delays self.old.card self.old.wire.lines block.now result
-            (fits_write (planned_fault self.old) self.old.card self.old.wire.lines) self.new.card }
-        ensures counts { self.new.faults
-            ≡ (if fits_write (planned_fault self.old) self.old.card self.old.wire.lines
-            then self.old.faults + 1 else self.old.faults) }
-        ensures delays { self.new.delays ≡ moved_on self.old.delays self.old.card.state self.new.card.state }
-        ensures plan { self.new.plan ≡ self.old.plan }
-    {
-        let fault = self.plan.fault(self.wire.exchanges);
-        let state = self.chip.state;
-        let (got, fell) = faulty_accept(&mut self.chip, fault, self.delays, self.wire.lines, block);
-        self.delays.note_state(state, self.chip.state);
-        self.faults = counted(self.faults, fell);
-        self.wire.note(Exchange::Out { got });
-        got
-    }
-
     /// Writes a block.
     pub fn write_data(&mut self, block: &[u8; 512]) -> DataOut
         ensures exchanged { DataWritten (sim_bus_view self.old) block.now result (sim_bus_view self.new) }
-        ensures does { Writes (planned_fault self.old) (met self.old).delays (card_met self.old) self.old.wire.lines block.now result
-            (fits_write (planned_fault self.old) (card_met self.old) self.old.wire.lines) self.new.card }
-        ensures counts { self.new.faults
-            ≡ (if fits_write (planned_fault self.old) (card_met self.old) self.old.wire.lines
-            then self.old.faults + 1 else self.old.faults) }
-        ensures delays { self.new.delays ≡ moved_on (met self.old).delays (card_met self.old).state self.new.card.state }
+        ensures does { let before = met (planned_fault self.old) self.old in
+            Writes (planned_fault self.old) before.delays before.card before.wire.lines block.now result
+            (fits_write (planned_fault self.old) before.card before.wire.lines) self.new.card }
+        ensures counts { let before = met (planned_fault self.old) self.old in
+            self.new.faults ≡ counted (fits_write (planned_fault self.old) before.card before.wire.lines) before.faults }
+        ensures delays { let before = met (planned_fault self.old) self.old in
+            self.new.delays ≡ moved_on before.delays before.card.state self.new.card.state }
         ensures plan { self.new.plan ≡ self.old.plan }
     {
-        self.pass_time();
-        self.meet_block(block)
+        let fault = self.plan.fault(self.wire.exchanges);
+        let unseen = pass_time(&mut self.chip, &mut self.delays, fault);
+        let state = self.chip.state;
+        let (got, fell) = faulty_accept(&mut self.chip, fault, self.delays, self.wire.lines, block);
+        self.delays.note_state(state, self.chip.state);
+        self.faults = counted(self.faults, unseen | fell);
+        self.wire.note(Exchange::Out { got });
+        got
     }
 
     /// Polls the card: whether it is busy.

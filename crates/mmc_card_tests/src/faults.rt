@@ -137,6 +137,37 @@ fn shows_errors_while_it_is_busy(rt: HostRuntime) -> Result<(), Fail> {
     Ok(())
 }
 
+// Programming that has failed unseen shows at the next command, which meets the card in tran.
+#[test]
+fn shows_what_has_failed_unseen(rt: HostRuntime) -> Result<(), Fail> {
+    for (outcome, byte) in [(Outcome::Old, 0), (Outcome::New, 0x5a)] {
+        let mut card = faulty(rt.alloc(), 2, Fault::FailUnseen(outcome, 0x0010_0000))?;
+        expect_r1(&rt, &mut card, 24, 512, 0x900);
+        expect_taken(&rt, &mut card, 0x5a, DataOut::Accepted);
+        expect_status(&rt, &mut card, 0x0010_0900);
+        expect_status(&rt, &mut card, 0x900);
+        expect_filled(&rt, &card, Part::User, 0, &[0, byte, 0, 0]);
+        assert_eq!(rt; card.faults(), 1);
+    }
+    Ok(())
+}
+
+// That of an earlier block may have by the next one, which the card takes.
+#[test]
+fn goes_on_after_what_has_failed_unseen(rt: HostRuntime) -> Result<(), Fail> {
+    let mut card = faulty(rt.alloc(), 2, Fault::FailUnseen(Outcome::Old, 0x0010_0000))?;
+    expect_r1(&rt, &mut card, 25, 512, 0x900);
+    expect_taken(&rt, &mut card, 0x5a, DataOut::Accepted);
+    expect_taken(&rt, &mut card, 0x5b, DataOut::Accepted);
+    expect_status(&rt, &mut card, 0x0010_0c00);
+    expect_polls(&rt, &mut card, 0);
+    expect_r1(&rt, &mut card, 12, 0, 0xd00);
+    expect_polls(&rt, &mut card, 0);
+    expect_filled(&rt, &card, Part::User, 0, &[0, 0, 0x5b, 0]);
+    assert_eq!(rt; card.faults(), 1);
+    Ok(())
+}
+
 // A write of protected sectors doesn't begin, and its response says why.
 #[test]
 fn finds_sectors_protected(rt: HostRuntime) -> Result<(), Fail> {

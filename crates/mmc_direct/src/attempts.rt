@@ -7,8 +7,8 @@ ghost use Rattle.mmc_bus.specs.Lending.{IsRewritten};
 ghost use Rattle.mmc_erase.specs.declared.how.How.{How};
 ghost use Rattle.mmc_switch.specs.Info.{lasting, sectors_of};
 ghost use Rattle.mmc_recovery.specs.Healed.{with_settling};
-ghost use Rattle.mmc_recovery.specs.Settled.{TellsResetWithin, session_of};
-ghost use Rattle.mmc_recovery.specs.declared.order.TheConstants.{EXCHANGES_OF_A_PATIENT_RESTORATION};
+ghost use Rattle.mmc_recovery.specs.Settled.{TellsReset, session_of};
+ghost use Rattle.mmc_recovery.specs.declared.order.Patience.TheVariants.{Twice};
 ghost use Rattle.mmc_direct.specs.Attempts.{HasPrepared, HasTried, erasing, moving};
 ghost use Rattle.mmc_requests.specs.Changes.{erased_at, written_at};
 ghost use Rattle.mmc_direct.specs.Healing.{HasSettled};
@@ -21,7 +21,7 @@ ghost use Rattle.mmc_direct.specs.declared.attempts.TheConstants.{EXCHANGES_BESI
 
 use mmc_bus::{Blocks, BlocksMut, Bus, Part};
 use mmc_erase::{How, erase_run};
-use mmc_recovery::{EXCHANGES_OF_A_PATIENT_SETTLE, Healed, settle_patiently};
+use mmc_recovery::{EXCHANGES_OF_A_PATIENT_SETTLE, Healed, Patience, settle_with};
 use mmc_switch::{Broken, EXCHANGES_OF_A_SWITCH, Session, Stands, select};
 use mmc_transfer::{read_run, write_run};
 
@@ -35,7 +35,7 @@ fn settled<B: Bus>(bus: &mut B, healed: &mut Healed, stands: Stands) -> Result<S
     ensures kept { (B.view bus.new).is_kept ≡ true → (B.view bus.old).is_kept ≡ true }
     ensures cause { IfErr result (λ broken. IsCausedIn 0 broken (B.view bus.old) (B.view bus.new)) }
     ensures told { IfBroken stands (λ broken. (was_reset : Bool) × (healed.new ≡ with_settling was_reset healed.old)
-        × TellsResetWithin EXCHANGES_OF_A_PATIENT_RESTORATION broken (B.view bus.old) (session_of result) was_reset
+        × TellsReset Twice broken (B.view bus.old) (session_of result) was_reset
         (B.view bus.new)) }
     ensures healed { HasSettled stands healed.old healed.new }
     ensures prepared { (B.view bus.new).is_kept ≡ true → StandsIn stands (B.view bus.old)
@@ -44,7 +44,7 @@ fn settled<B: Bus>(bus: &mut B, healed: &mut Healed, stands: Stands) -> Result<S
     match stands {
         Stands::Ready(session) => Ok(session),
         Stands::Broken(broken) => {
-            let (outcome, was_reset) = settle_patiently(bus, broken);
+            let (outcome, was_reset) = settle_with(bus, broken, Patience::Twice);
             *healed = healed.settled(was_reset);
             outcome
         }

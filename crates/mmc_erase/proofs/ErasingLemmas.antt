@@ -99,14 +99,14 @@ by_units made unit room first count last is some more inside next units =
 
 -- it trims, or it erases by units
 range : (how : How) (made : Made) (info : Info) (trims : Bool) (room first count last : ℕ)
-    → trims ≡ (is_mmc made.kind && (argument_of how == 1)) → info.trims ≡ trims_of made
+    → trims ≡ (is_mmc made.kind && (argument_of how == 1)) → (info.trims ≡ true → trims_of made ≡ true)
     → info.erase_unit ≡ erase_unit_of_card made → 1 ≤ info.erase_unit → 1 ≤ count → first + count ≤ room
     → last + 1 ≡ first + count → suits how info room first count ≡ true → IsRange made trims room first count last
 range Erase made info trims room first count last is knows unit some more inside next suited =
     subst (λ b. IsRange made b room first count last) (sym (is ∙ erases_by made.kind 0 refl))
     (by_units made info.erase_unit room first count last unit some more inside next suited)
 range Trim made info trims room first count last is knows unit some more inside next suited =
-    subst (λ b. IsRange made b room first count last) (sym (is ∙ trims_by made.kind 1 _ (sym knows ∙ suited) refl))
+    subst (λ b. IsRange made b room first count last) (sym (is ∙ trims_by made.kind 1 _ (knows suited) refl))
     (trimmed made room first count last next)
 
 abbrev change_to : Part → ℕ → ℕ → ℕ → Change

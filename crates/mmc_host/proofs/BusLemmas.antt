@@ -8,7 +8,7 @@ use Rattle.mmc_card.specs.Faults.{CommandStep, MeetsBlock, MeetsCommand, Passes,
 use Rattle.mmc_card.specs.Faults.{at_once, brownout, busy, fail, fail_early, faithful}
 use Rattle.mmc_card.specs.Faults.{has_failed, has_fallen_short, has_rested, has_run}
 use Rattle.mmc_card.specs.Faults.{fail_switch, fall_short, find_error, flip_command, lose_block, show_errors}
-use Rattle.mmc_card.specs.Faults.{lose_command, lose_reply, lose_status, outlive, reject, slow_inquiry, spoil, turn_out}
+use Rattle.mmc_card.specs.Faults.{lose_command, lose_reply, lose_status, outlive, reject, slow_inquiry, slow_status, spoil, turn_out}
 use Rattle.mmc_card.specs.declared.exchange.DataIn.{DataIn}
 use Rattle.mmc_card.specs.declared.exchange.DataOut.{DataOut}
 use Rattle.mmc_card.specs.declared.exchange.Exchange.{Exchange}
@@ -64,6 +64,8 @@ moved_meeting old new l m a b frame reply (lose_reply choice fine count card ans
     lose_reply choice fine count card answers refused
 moved_meeting old new l m a b frame reply (slow_inquiry choice slow late inquiry count card spells) =
     slow_inquiry choice slow late inquiry count card spells
+moved_meeting old new l m a b frame reply (slow_status choice behind late status count card spells) =
+    slow_status choice behind late status count card spells
 moved_meeting old new l m a b frame reply (fail_switch choice fails switch count card spells) =
     fail_switch choice fails switch count card spells
 moved_meeting old new l m a b frame reply (find_error choice finds late transfers count card spells) =

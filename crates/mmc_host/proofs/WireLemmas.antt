@@ -6,7 +6,7 @@ use Rattle.mmc_card.specs.CardAnswer.{CardAnswer, Silent, reset}
 use Rattle.std.specs.Prelude.{if◌then◌else◌}
 use Rattle.mmc_card.specs.Faults.{IsRefused, MeetsCommand, Spells, at_once, brownout, fail_switch, faithful}
 use Rattle.mmc_card.specs.Faults.{find_error, flip_command, lose_command, lose_reply}
-use Rattle.mmc_card.specs.Faults.{outlive, show_errors, slow_inquiry}
+use Rattle.mmc_card.specs.Faults.{outlive, show_errors, slow_inquiry, slow_status}
 use Rattle.mmc_card.specs.Judged.{IsSaid}
 use Rattle.mmc_card.specs.Card.{Card}
 use Rattle.mmc_card.specs.Rows.{answered}
@@ -47,6 +47,8 @@ unsound_meets old new index argument frame reply command (lose_reply choice fine
     (subst (λ (s : Option (ℕ × ℕ)). (answered choice old.card s).1 ≡ Silent → ⊥) e answers)
     (refused_in_silence (command_in other) _ heard silent)
 unsound_meets old new index argument frame reply command (slow_inquiry choice slow late inquiry count card spells) unsound =
+    absurd (unsound spells.0 spells.2)
+unsound_meets old new index argument frame reply command (slow_status choice behind late status count card spells) unsound =
     absurd (unsound spells.0 spells.2)
 unsound_meets old new index argument frame reply command (fail_switch choice fails switch count card spells) unsound =
     absurd (unsound spells.0 spells.2)

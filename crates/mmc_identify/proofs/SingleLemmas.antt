@@ -30,7 +30,7 @@ use Rattle.mmc_identify.specs.Judged as judged
 use Rattle.mmc_identify.specs.Stages.{IsIdle, IsLeft, IsNamed, IsResting, IsSelected, IsTaken, Looks}
 use Rattle.mmc_identify.specs.declared.fault.IdentFault.{IdentFault}
 use Rattle.mmc_identify.specs.declared.fault.IdentFault.TheVariants.{Register}
-use Rattle.mmc_bus.specs.Closings.{Closes, ClosesSoon, HasShown}
+use Rattle.mmc_bus.specs.Closings.{Closes, ClosesSoon, WasAtWork}
 use Rattle.mmc_bus.specs.declared.status.Closing.{Closing}
 use Rattle.mmc_card.proofs.JudgedLemmas.{less}
 use Rattle.mmc_identify.specs.Stages.{LooksAfter, RestsAfter}
@@ -136,11 +136,19 @@ described_fine rca argument old heard new is_rca does same named =
 -- CMD7.
 
 -- a card in tran that has just shown what it had to show, busy or not
-shown_selected : (rca : ℕ) (old : Card) (state : State) (busy lags : Bool) (polled errors : ℕ) → state ≡ Tran → old.rca ≡ rca
+shown_selected : (rca : ℕ) (old : Card) (state : State) (busy lags : Bool) (polled errors : ℕ) (switch : Bool) → state ≡ Tran
+    → old.rca ≡ rca
     → old.part ≡ User → old.width ≡ One → old.timing ≡ Default → old.erase_group_def ≡ 0 → old.erase ≡ NoAddress
-    → errors ≡ 0
-    → IsSelected rca (record (shown old) { state = state; is_busy = busy; polled = polled; lags = lags; errors = errors })
-shown_selected rca old state busy lags polled errors tran is part width timing erase_group_def erase none = record {
+    → errors ≡ 0 → switch ≡ false
+    → IsSelected rca (record (shown old) {
+      state = state;
+      is_busy = busy;
+      polled = polled;
+      lags = lags;
+      errors = errors;
+      switch_error = switch;
+    })
+shown_selected rca old state busy lags polled errors switch tran is part width timing erase_group_def erase none unset = record {
   state = tran;
   is_rca = is;
   part = part;
@@ -152,7 +160,7 @@ shown_selected rca old state busy lags polled errors tran is part width timing e
   erase = erase;
   command_errors = refl;
   errors = none;
-  switch_error = refl;
+  switch_error = unset;
 }
 
 selected_after : (rca : ℕ) (old new : Card) → IsCard old → old.state ≡ Stby → old.rca ≡ rca
@@ -160,8 +168,8 @@ selected_after : (rca : ℕ) (old new : Card) → IsCard old → old.state ≡ S
 selected_after rca old new card stby is e =
     let apart = card.apart (ap is_selected stby) in
     subst (IsTaken rca) (sym e) (record {
-      selected = shown_selected rca old Tran true true 0 0 refl is apart.part apart.width apart.timing apart.erase_group_def
-          apart.erase refl;
+      selected = shown_selected rca old Tran true true 0 0 false refl is apart.part apart.width apart.timing apart.erase_group_def
+          apart.erase refl refl;
       polled = refl;
     })
 
@@ -279,18 +287,18 @@ clean_leaves : (rca : ℕ) (kind : Kind) (old new : Card) → Looks rca old → 
 clean_leaves rca kind old new looks says =
     let is = looks (ap is_selected says.0.tran) in
     subst (IsLeft rca) (sym says.1) (record {
-      selected = shown_selected rca old old.state old.is_busy false old.polled 0 is.state is.is_rca is.part is.width is.timing
-          is.erase_group_def is.erase refl;
+      selected = shown_selected rca old old.state old.is_busy false old.polled 0 false is.state is.is_rca is.part is.width is.timing
+          is.erase_group_def is.erase refl refl;
       rests = says.0.rests;
       up_to_date = refl;
     })
 
 -- and one that shows it at work
-work_leaves : (rca : ℕ) (old new : Card) → HasShown old new → new.errors ≡ 0 → IsSelected rca old → IsSelected rca new
-work_leaves rca old new shown none is =
-    subst (IsSelected rca) (sym shown)
-    (shown_selected rca old old.state old.is_busy new.lags new.polled new.errors is.state is.is_rca is.part is.width is.timing
-    is.erase_group_def is.erase none)
+work_leaves : (rca : ℕ) (kind : Kind) (old new : Card) → WasAtWork kind old new → IsSelected rca old → IsSelected rca new
+work_leaves rca kind old new was is =
+    subst (IsSelected rca) (sym was.shown)
+    (shown_selected rca old old.state old.is_busy new.lags new.polled new.errors new.switch_error is.state is.is_rca is.part
+    is.width is.timing is.erase_group_def is.erase (was.gets_none is.errors) (was.gets_no_switch_error is.switch_error))
 
 -- a card in tran is nowhere else
 elsewhere : {X : Type 0} (card : Card) (state : State) → is_in state Tran ≡ false → card.state ≡ Tran → is_in card.state state ≡ true
@@ -316,7 +324,7 @@ pub closing_own : (rca : ℕ) (kind : Kind) (old new : Card) (r : Result Closing
 closing_own rca kind old new (Ok Clean) closes looks = clean_leaves rca kind old new looks closes
 closing_own rca kind old new (Ok AtWork) closes looks = λ up.
     let is = looks (sym (ap (λ (c : Card). is_selected c.state) closes.shown) ∙ up) in
-    work_leaves rca old new closes.shown (closes.gets_none is.errors) is
+    work_leaves rca kind old new closes is
 closing_own rca kind old new (Err fault) closes looks = tt
 
 pub closing_fine : (rca waits : ℕ) (kind : Kind) (old new : Card) (r : Result Closing IdentFault) → Closes kind r old new
@@ -324,12 +332,12 @@ pub closing_fine : (rca waits : ℕ) (kind : Kind) (old new : Card) (r : Result 
 closing_fine rca waits kind old new (Ok Clean) closes soon resting = tt
 closing_fine rca waits kind old new (Ok AtWork) closes soon resting =
     let before = resting.polled in
-    let below = soon.0.1 in
-    let count = soon.0.2 in
+    let below = soon.1 in
+    let count = soon.0.1 in
     record {
-      selected = work_leaves rca old new closes.shown soon.1 resting.selected;
+      selected = work_leaves rca kind old new closes resting.selected;
       rests = ap (λ (c : Card). c.is_busy) closes.shown ∙ resting.rests;
-      polled = omega (arith, before, count);
+      polled = omega (arith, before, below, count);
       few = omega (arith, before, below);
     }
 closing_fine rca waits kind old new (Err fault) closes soon resting = soon

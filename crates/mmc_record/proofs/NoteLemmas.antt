@@ -18,7 +18,7 @@ use Rattle.mmc_regs.specs.declared.fault.RegFault.{RegFault}
 use Rattle.mmc_regs.specs.declared.fault.RegFault.TheVariants.{Range, Structure}
 use Rattle.mmc_card.specs.Made.{HasRegisters, Made}
 use Rattle.mmc_card.specs.declared.exchange.Lines.{Lines}
-use Rattle.mmc_switch.specs.Info.{IsInfo}
+use Rattle.mmc_switch.specs.Info.{IsKnown}
 use Rattle.mmc_switch.specs.declared.info.Info.{Info}
 use Rattle.mmc_frame.specs.declared.addressing.Addressing.{Addressing}
 use Rattle.mmc_ext_csd.specs.Partition.{addressable_sectors, existing_sectors}
@@ -69,7 +69,7 @@ of_kind Mmc number = refl
 number_of : (kind : Kind) (number : ℕ) (csd : Csd) → csd_of kind number ≡ Ok csd → csd_number csd ≡ number
 number_of kind number csd e = sym (ap (number_or number) e) ∙ of_kind kind number
 
-pub card_checks : (limits : Lines) (made : Made) (info : Info) → HasRegisters made → IsInfo limits made info → HasChecks info
+pub card_checks : (limits : Lines) (made : Made) (info : Info) → HasRegisters made → IsKnown limits made info → HasChecks info
 card_checks limits made info registers is =
     let cid : checked_number made.cid ≡ Ok (register_number made.cid) =
     checked made.cid registers.cid_check registers.cid_end in

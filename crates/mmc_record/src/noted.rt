@@ -2,7 +2,7 @@
 ghost use Rattle.std.specs.Prelude.{◌≡◌};
 ghost use Rattle.mmc_card.specs.Made.{HasRegisters, Made};
 ghost use Rattle.mmc_card.specs.declared.exchange.Lines.{Lines};
-ghost use Rattle.mmc_switch.specs.Info.{IsInfo};
+ghost use Rattle.mmc_switch.specs.Info.{IsKnown};
 ghost use Rattle.mmc_record.specs.Note.{HasChecks, IsNoteOf, SaysSession, what_is_left};
 ghost use Rattle.mmc_record.specs.Numbers.{cause_of};
 
@@ -48,7 +48,7 @@ fn noted(session: &Session, state: u8, cause: Cause) -> CardRecord
 
 /// Notes a card that is ready.
 pub fn note(session: &Session) -> CardRecord
-    ensures of_a_card { (limits : Lines) → (made : Made) → HasRegisters made → IsInfo limits made session.now.info
+    ensures of_a_card { (limits : Lines) → (made : Made) → HasRegisters made → IsKnown limits made session.now.info
         → IsNoteOf (Stands.Ready session.now) result }
     ensures checked { HasChecks session.now.info → IsNoteOf (Stands.Ready session.now) result }
 {
@@ -57,7 +57,7 @@ pub fn note(session: &Session) -> CardRecord
 
 /// Notes a broken card. What has to be reset is read back as `Broken::give_up` leaves it.
 pub fn note_broken(broken: &Broken) -> CardRecord
-    ensures of_a_card { (limits : Lines) → (made : Made) → HasRegisters made → IsInfo limits made broken.now.session.info
+    ensures of_a_card { (limits : Lines) → (made : Made) → HasRegisters made → IsKnown limits made broken.now.session.info
         → IsNoteOf (Stands.Broken (what_is_left broken.now)) result }
     ensures checked { HasChecks broken.now.session.info → IsNoteOf (Stands.Broken (what_is_left broken.now)) result }
 {

@@ -14,9 +14,9 @@ use Rattle.mmc_recovery.specs.declared.order.Patience.TheVariants.{Once, Twice}
 use Rattle.mmc_recovery.specs.declared.order.TheConstants.{EXCHANGES_OF_A_PATIENT_RESTORATION, EXCHANGES_OF_A_RESTORATION}
 
 -- the most exchanges of a restoration with so much patience
-abbrev pub most_exchanges : Patience → ℕ
-most_exchanges Once = EXCHANGES_OF_A_RESTORATION
-most_exchanges Twice = EXCHANGES_OF_A_PATIENT_RESTORATION
+abbrev pub restoring : Patience → ℕ
+restoring Once = EXCHANGES_OF_A_RESTORATION
+restoring Twice = EXCHANGES_OF_A_PATIENT_RESTORATION
 
 -- A card that stood as its session says, with this known of it, is ready for that session if this is a success, and stands so
 -- still where an answer wasn't heard.
@@ -40,14 +40,10 @@ session_of (Ok session) = Some session
 session_of (Err left) = None
 
 -- Whether a card was reset, by the session with which it goes on, if it does: it wasn't only where it goes on as it was, and was
--- no more than restored where it stood, by so many exchanges at most.
-pub record TellsResetWithin (most : ℕ) (broken : Broken) (was : BusView) (session : Option Session) (was_reset : Bool)
+-- no more than restored where it stood, with so much patience.
+pub record TellsReset (patience : Patience) (broken : Broken) (was : BusView) (session : Option Session) (was_reset : Bool)
     (now : BusView) : Type 0 where
   pub needed : broken.must_reset ≡ true → was_reset ≡ true
   pub as_it_was : was_reset ≡ false → session ≡ Some broken.session
-  pub few : was_reset ≡ false → now.exchanges ≤ was.exchanges + most
+  pub few : was_reset ≡ false → now.exchanges ≤ was.exchanges + restoring patience
   pub anew : was_reset ≡ true → IfSome session (λ s. s.selected ≡ Some User)
-
--- where it is tried once to restore the card
-abbrev pub TellsReset : Broken → BusView → Option Session → Bool → BusView → Type 0
-TellsReset = TellsResetWithin EXCHANGES_OF_A_RESTORATION

@@ -7,7 +7,5 @@ mod reopening;
 mod settling;
 
 pub use healed::Healed;
-pub use order::{EXCHANGES_OF_A_PATIENT_RESTORATION, EXCHANGES_OF_A_RESTORATION};
-pub use settling::{
-    EXCHANGES_OF_A_PATIENT_SETTLE, EXCHANGES_OF_A_SETTLE, settle, settle_patiently, settle_telling,
-};
+pub use order::{EXCHANGES_OF_A_PATIENT_RESTORATION, EXCHANGES_OF_A_RESTORATION, Patience};
+pub use settling::{EXCHANGES_OF_A_PATIENT_SETTLE, EXCHANGES_OF_A_SETTLE, settle, settle_with};

@@ -7,7 +7,7 @@ ghost use Rattle.mmc_card.specs.RowsErase.{forgotten};
 ghost use Rattle.mmc_bus.specs.Closings.{HasShown};
 ghost use Rattle.mmc_bus.specs.declared.cause.Cause.TheVariants as Why;
 ghost use Rattle.mmc_bus.specs.Work.{Anything, Moves, Narrows, Works};
-ghost use Rattle.mmc_recovery.specs.Settled.{Restores, most_exchanges};
+ghost use Rattle.mmc_recovery.specs.Settled.{Restores, restoring};
 
 use mmc_bus::{
     Bus, Cause, MAX_POLLS, ask, confirm, identify_laws, rca_argument, transfer_laws,
@@ -120,7 +120,7 @@ pub enum Patience {
 /// # Errors
 /// Those of `restore`, when it was tried last.
 pub fn restore_with<B: Bus>(bus: &mut B, info: &Info, patience: Patience) -> Result<(), Cause>
-    ensures bounded { (B.view bus.new).exchanges ≤ (B.view bus.old).exchanges + most_exchanges patience }
+    ensures bounded { (B.view bus.new).exchanges ≤ (B.view bus.old).exchanges + restoring patience }
     ensures moves { Moves (Restores info.now result) Anything (B.view bus.old) (B.view bus.new) }
 {
     match (restore(bus, info), patience) {

@@ -18,9 +18,8 @@ ghost use Rattle.mmc_bus.specs.Learned.{Stays};
 ghost use Rattle.mmc_bus.specs.Work.{Narrows};
 ghost use Rattle.mmc_switch.specs.Info.{lasting};
 ghost use Rattle.mmc_switch.specs.Place.{IsBroken};
-ghost use Rattle.mmc_recovery.specs.Settled.{Leaves, TellsReset, TellsResetWithin, given_up, most_exchanges, session_of};
+ghost use Rattle.mmc_recovery.specs.Settled.{Leaves, TellsReset, given_up, restoring, session_of};
 ghost use Rattle.mmc_switch.specs.declared.initialization.TheConstants.{EXCHANGES_OF_AN_INITIALIZATION};
-ghost use Rattle.mmc_recovery.specs.declared.order.TheConstants.{EXCHANGES_OF_A_PATIENT_RESTORATION};
 
 use crate::order::{
     EXCHANGES_OF_A_PATIENT_RESTORATION, EXCHANGES_OF_A_RESTORATION, Patience, restore_with,
@@ -54,65 +53,24 @@ pub fn settle<B: Bus>(bus: &mut B, broken: Broken) -> Result<Session, Broken>
     ensures refused { (B.view bus.new).is_kept ≡ true → IsBroken broken (B.view bus.old)
         → InProfile (B.view bus.old).card.made → IsErr result → (B.view bus.old).faults < (B.view bus.new).faults }
 {
-    settle_telling(bus, broken).0
+    settle_with(bus, broken, Patience::Once).0
 }
 
-/// The same, and whether the card was reset, which a host counts.
+/// The same, with so much patience, and whether the card was reset, which a host counts.
 ///
 /// # Errors
 /// Those of `settle`; the card was reset then.
-pub fn settle_telling<B: Bus>(bus: &mut B, broken: Broken) -> (Result<Session, Broken>, bool)
-    ensures bounded { (B.view bus.new).exchanges ≤ (B.view bus.old).exchanges + EXCHANGES_OF_A_SETTLE }
-    ensures ok { IfOk result.0 (λ session. (lasting session.info ≡ lasting broken.session.info)
-        × ((session ≡ broken.session) ⊎ (session.selected ≡ Some User))) }
-    ensures err { IfErr result.0 (λ left. left ≡ given_up broken) }
-    ensures told { TellsReset broken (B.view bus.old) (session_of result.0) result.1 (B.view bus.new) }
-
-    ensures kept { (B.view bus.new).is_kept ≡ true → (B.view bus.old).is_kept ≡ true }
-    ensures stays { (B.view bus.new).is_kept ≡ true
-        → Stays (B.view bus.old) (B.view bus.new) × Narrows (B.view bus.old) (B.view bus.new) }
-    ensures settled { (B.view bus.new).is_kept ≡ true → IsBroken broken (B.view bus.old) → Leaves result.0 (B.view bus.new) }
-    ensures refused { (B.view bus.new).is_kept ≡ true → IsBroken broken (B.view bus.old)
-        → InProfile (B.view bus.old).card.made → IsErr result.0 → (B.view bus.old).faults < (B.view bus.new).faults }
-{
-    settle_with(bus, broken, Patience::Once)
-}
-
-/// As `settle_telling`, with patience: where CMD12 or CMD13 isn't heard it is tried once more to bring the card back in order,
-/// before it is reset.
-///
-/// # Errors
-/// Those of `settle`; the card was reset then.
-pub fn settle_patiently<B: Bus>(bus: &mut B, broken: Broken) -> (Result<Session, Broken>, bool)
-    ensures bounded { (B.view bus.new).exchanges ≤ (B.view bus.old).exchanges + EXCHANGES_OF_A_PATIENT_SETTLE }
-    ensures ok { IfOk result.0 (λ session. (lasting session.info ≡ lasting broken.session.info)
-        × ((session ≡ broken.session) ⊎ (session.selected ≡ Some User))) }
-    ensures err { IfErr result.0 (λ left. left ≡ given_up broken) }
-    ensures told { TellsResetWithin EXCHANGES_OF_A_PATIENT_RESTORATION broken (B.view bus.old) (session_of result.0)
-        result.1 (B.view bus.new) }
-
-    ensures kept { (B.view bus.new).is_kept ≡ true → (B.view bus.old).is_kept ≡ true }
-    ensures stays { (B.view bus.new).is_kept ≡ true
-        → Stays (B.view bus.old) (B.view bus.new) × Narrows (B.view bus.old) (B.view bus.new) }
-    ensures settled { (B.view bus.new).is_kept ≡ true → IsBroken broken (B.view bus.old) → Leaves result.0 (B.view bus.new) }
-    ensures refused { (B.view bus.new).is_kept ≡ true → IsBroken broken (B.view bus.old)
-        → InProfile (B.view bus.old).card.made → IsErr result.0 → (B.view bus.old).faults < (B.view bus.new).faults }
-{
-    settle_with(bus, broken, Patience::Twice)
-}
-
-// The settlings above, with so much patience.
-fn settle_with<B: Bus>(
+pub fn settle_with<B: Bus>(
     bus: &mut B,
     broken: Broken,
     patience: Patience,
 ) -> (Result<Session, Broken>, bool)
     ensures bounded { (B.view bus.new).exchanges ≤ (B.view bus.old).exchanges
-        + (most_exchanges patience + EXCHANGES_OF_AN_INITIALIZATION) }
+        + (restoring patience + EXCHANGES_OF_AN_INITIALIZATION) }
     ensures ok { IfOk result.0 (λ session. (lasting session.info ≡ lasting broken.session.info)
         × ((session ≡ broken.session) ⊎ (session.selected ≡ Some User))) }
     ensures err { IfErr result.0 (λ left. left ≡ given_up broken) }
-    ensures told { TellsResetWithin (most_exchanges patience) broken (B.view bus.old) (session_of result.0) result.1
+    ensures told { TellsReset patience broken (B.view bus.old) (session_of result.0) result.1
         (B.view bus.new) }
 
     ensures kept { (B.view bus.new).is_kept ≡ true → (B.view bus.old).is_kept ≡ true }

@@ -122,27 +122,27 @@ idle_shown card idle = record {
 }
 
 -- and where the status shows it at work still
-pub idle_after : (old new : Card) → HasShown old new → new.errors ≡ 0 → IsIdle 0 old → IsIdle 0 new
-idle_after old new e none idle =
+pub idle_after : (old new : Card) → HasShown old new → new.errors ≡ 0 → new.switch_error ≡ false → IsIdle 0 old → IsIdle 0 new
+idle_after old new e none unset idle =
     subst (IsIdle 0) (sym e) (record {
-      quiet = quiet_by idle.quiet.state refl refl none refl refl idle.quiet.erase;
+      quiet = quiet_by idle.quiet.state refl refl none unset refl idle.quiet.erase;
       rests = idle.rests;
     })
 
 pub lags_on : (waits : ℕ) (old new : Card) → LagsAfter waits old → CountsOn old new → LagsAfter (waits + 1) new
 lags_on waits old new after counts still few =
     let on = counts still in
-    let was = after on.0 on.1 in
-    let more = on.2 in
-    omega (arith, was, more)
+    let more = on.1 in
+    let was = after on.0 (omega (arith, more, few)) in
+    omega (arith, was, more, few)
 
 -- a status is no failure of a card in order
 never_fails : (waits : ℕ) (old new : Card) (closing : Result Closing Cause) → FailsAt waits closing → LagsAfter waits old
     → ClosesSoon closing old new → ⊥
 never_fails waits old new (Ok Clean) fails after soon = fails
 never_fails waits old new (Ok AtWork) fails after soon =
-    let was = after soon.0.0 soon.0.1 in
-    let below = soon.0.1 in
+    let below = soon.1 in
+    let was = after soon.0.0 below in
     absurd (omega (arith, was, below, fails))
 never_fails waits old new (Err cause) fails after soon = soon
 
@@ -154,7 +154,7 @@ pub record CanEnd (session : Session) (Exact : Ending → Card → Type 0) : Typ
   pub no : ProgramLaw → (polls : ℕ) (card : Card) → Exact (Wait polls) card → FitsPart card
       → (is_selected card.state ≡ true → card.part ≡ part_of session) → Exact (Confirm polls) (rested card)
   pub works : (waits : ℕ) (card new : Card) → Exact (Confirm waits) card → HasShown card new → new.errors ≡ 0
-      → CountsOn card new → Exact (Confirm (waits + 1)) new
+      → new.switch_error ≡ false → CountsOn card new → Exact (Confirm (waits + 1)) new
   pub idle : (waits : ℕ) (card : Card) → Exact (Confirm waits) card → IsIdle 0 card
   pub lags : (waits : ℕ) (card : Card) → Exact (Confirm waits) card → LagsAfter waits card
   pub shows : (waits : ℕ) (card : Card) → Exact (Confirm waits) card → Exact (Confirm 0) (shown card)
@@ -177,8 +177,8 @@ change_ends session change part = record {
     carried_out change card law fits (in_part (ap is_selected exact.0.quiet.state) ∙ sym part) exact.0,
     subst (LagsAfter polls) (sym (rested_in Prg card exact.0.quiet.state)) (λ lags few. exact.1.polled few),
   );
-  works = λ waits card new exact shows none counts. (
-    idle_after card new shows none exact.0,
+  works = λ waits card new exact shows none unset counts. (
+    idle_after card new shows none unset exact.0,
     subst (IsCarriedOut change) (sym shows) exact.1,
     lags_on waits card new exact.2 counts,
   );
@@ -261,7 +261,8 @@ module _ (session : Session) (change : Change) (Exact : Ending → Card → Type
         let idle = ends.idle waits a.card rests in
         let own = subst (λ (v : BusView). WasAtWork session.info.kind v.card b.card)
         (still a met (still_idle 0 a.card idle) work.own.1) work.own.2 in
-        ends.works waits a.card b.card rests own.shown (own.gets_none idle.quiet.errors) own.counts in
+        ends.works waits a.card b.card rests own.shown (own.gets_none idle.quiet.errors)
+        (own.gets_no_switch_error idle.quiet.switch_error) own.counts in
         turn_goes_on session change ShownIn Exact (Exact (Confirm 0)) (Confirm waits) faults a b at work
         (Confirm (waits + 1))
         sound (λ rests sound. comes rests) (λ rests quiet. comes rests)

@@ -7,7 +7,7 @@ use Rattle.mmc_bus.proofs.WorkLemmas.{moved_then, quiet_parts}
 use Rattle.mmc_bus.specs.Work.{Moved}
 use Rattle.mmc_identify.specs.Stages.{IsFound, IsLeft}
 use Rattle.mmc_identify.specs.declared.found.Found.{Found}
-use Rattle.mmc_switch.specs.Place.{IsReady}
+use Rattle.mmc_switch.specs.Place.{IsInitialized}
 use Rattle.mmc_switch.specs.Stages.{first_lines}
 use Rattle.mmc_switch.specs.declared.initialization.InitializationFault.{InitializationFault}
 use Rattle.mmc_switch.specs.declared.session.Session.{Session}
@@ -15,7 +15,7 @@ use Rattle.mmc_switch.specs.declared.session.Session.{Session}
 -- what this result says of it
 abbrev pub Initializes : Result Session InitializationFault → BusView → BusView → Type 0
 Initializes r =
-    Moved (λ old new. IfOk r (λ session. IsReady session new))
+    Moved (λ old new. IfOk r (λ session. IsInitialized session new))
     (λ old new. InProfile old.card.made → IsOk r)
 
 -- what identification does that finds this
@@ -40,12 +40,12 @@ module _ (found : Found) (a b c : BusView) (lines : b.lines ≡ first_lines) (p 
       (subst InProfile (sym p.stays.carried.made) profile) own p.own.1 lines))
 
   -- It is widened.
-  pub widens_so : (session : Session) {Selects : Type 0}
+  pub widens_so : (session : Session)
       → Moved (λ old new. IsFound old.card.made found → IsLeft found.rca old.card
-      → old.lines ≡ first_lines → IsReady session new × Selects)
+      → old.lines ≡ first_lines → IsInitialized session new)
       (λ old new. InProfile old.card.made → IsFound old.card.made found → IsLeft found.rca old.card
       → old.lines ≡ first_lines → true ≡ true) b c → Initializes (Ok session) a c
   widens_so session q =
       moved_then a b c p q
-      (q.own own p.own.1 lines).0
+      (q.own own p.own.1 lines)
       (λ same profile. refl)

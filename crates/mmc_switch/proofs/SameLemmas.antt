@@ -26,7 +26,7 @@ use Rattle.mmc_card.specs.declared.exchange.Lines.{Lines}
 use Rattle.mmc_card.specs.declared.exchange.Timing.{Timing}
 use Rattle.mmc_card.specs.declared.part.Part.{Part}
 use Rattle.mmc_card.specs.declared.part.Part.TheVariants.{Boot1, Gp1, Gp2, Gp3, Gp4, User}
-use Rattle.mmc_switch.specs.Info.{IsInfo, IsTimingOver, lasting, lasting_timing}
+use Rattle.mmc_switch.specs.Info.{IsInfo, IsKnown, IsTimingOver, lasting, lasting_timing, used_as}
 use Rattle.mmc_switch.specs.Sizes.{size_of}
 use Rattle.mmc_switch.specs.contracts.info.InfoPartialEq.TheImpl as by
 use Rattle.mmc_switch.specs.contracts.sizes.SizesPartialEq.TheImpl as sizes_by
@@ -131,16 +131,23 @@ same_timing limits made Is.Mmc Is.Mmc a b is same one (inr two) = cc (is, two.0)
 same_timing limits made Is.Sd Is.Mmc a b is same one two = cc same
 same_timing limits made Is.Mmc Is.Sd a b is same one two = cc same
 
-pub known_info : (limits : Lines) (made : Made) (a b : Info) → IsInfo limits made a → IsInfo limits made b
-    → lasting a ≡ lasting b
+-- what is used no more than the card has it is what is used of all
+uses_of : (has used whole : Bool) → whole ≡ has → (used ≡ true → has ≡ true) → (whole && used) ≡ used
+uses_of has true whole is no_more = rw (is, no_more refl) refl
+uses_of has false true is no_more = refl
+uses_of has false false is no_more = refl
+
+pub known_info : (limits : Lines) (made : Made) (a b : Info) → IsInfo limits made a → IsKnown limits made b
+    → lasting (used_as b a) ≡ lasting b
 known_info limits made a b one other =
-    same_fields (lasting a) (lasting b) (one.kind ∙ sym other.kind) (one.addressing ∙ sym other.addressing) refl
+    same_fields (lasting (used_as b a)) (lasting b) (one.kind ∙ sym other.kind) (one.addressing ∙ sym other.addressing) refl
     (one.cid ∙ sym other.cid) (one_csd _ a.csd b.csd one.csd other.csd)
     (all_sizes a.sizes b.sizes (one.sizes User ∙ sym (other.sizes User)) (one.sizes Boot1 ∙ sym (other.sizes Boot1))
     (one.sizes Gp1 ∙ sym (other.sizes Gp1)) (one.sizes Gp2 ∙ sym (other.sizes Gp2))
     (one.sizes Gp3 ∙ sym (other.sizes Gp3)) (one.sizes Gp4 ∙ sym (other.sizes Gp4)))
     (one.read_only ∙ sym other.read_only) (one.erase_unit ∙ sym other.erase_unit)
-    (one.erased_byte ∙ sym other.erased_byte) (one.trims ∙ sym other.trims) (one.cmd23 ∙ sym other.cmd23)
+    (one.erased_byte ∙ sym other.erased_byte) (uses_of _ b.trims a.trims one.trims other.trims)
+    (uses_of _ b.cmd23 a.cmd23 one.cmd23 other.cmd23)
     (one.width ∙ sym other.width)
     (same_timing limits made a.kind b.kind a.timing b.timing (sym one.kind) (one.kind ∙ sym other.kind) one.timing
     other.timing)

@@ -28,7 +28,7 @@ use Rattle.mmc_bus.proofs.WorkLemmas.{fell}
 use Rattle.mmc_switch.specs.declared.broken.Broken.{Broken}
 use Rattle.mmc_switch.specs.declared.info.Info.{Info}
 use Rattle.mmc_switch.specs.declared.session.Session.{Session}
-use Rattle.mmc_switch.specs.Info.{IsInfo, sectors_of}
+use Rattle.mmc_switch.specs.Info.{IsKnown, sectors_of}
 use Rattle.mmc_switch.specs.Place.{IsBroken, IsPartOf, IsReady, Knows, StandsAs, setting_in}
 use Rattle.mmc_switch.specs.Sizes.{some_size}
 use Rattle.mmc_switch.specs.Stages.{lines_of}
@@ -42,7 +42,7 @@ no_size true size none some = cc (rw none at some)
 no_size false size none some = cc some
 
 -- it has a sector
-has_sectors : (info : Info) (part : Part) (limits : Lines) (made : Made) → IsInfo limits made info
+has_sectors : (info : Info) (part : Part) (limits : Lines) (made : Made) → IsKnown limits made info
     → IsSome (sectors_of info part) → sectors_in made part ≡ 0 → ⊥
 has_sectors info part limits made is some none =
     no_size _ (sectors_in made part) none (subst (λ n. IsSome (some_size n)) (is.sizes part) some)

@@ -1,6 +1,6 @@
 -- A turn of work that takes several: what it makes of where the work is, from what one exchange did.
 use Rattle.std.proofs.Common.{◌+◌, ◌-◌, ◌<◌, ◌∙◌, ◌≡◌, ◌≤◌, Bool, ap, arith, eq-eqb, false, refl, subst, suc, sym, true, zero, ℕ}
-use Rattle.std.specs.Prelude.{IsSome, None, Option, Some, if◌then◌else◌, length}
+use Rattle.std.specs.Prelude.{◌&&◌, IsSome, None, Option, Some, if◌then◌else◌, length}
 use Rattle.mmc_frame.specs.declared.card_state.State.{State}
 use Rattle.mmc_frame.specs.declared.card_state.State.TheVariants.{Data, Tran}
 use Rattle.mmc_frame.specs.Field.{field}
@@ -16,11 +16,12 @@ use Rattle.mmc_card.specs.CardLaws.{HasNoError}
 use Rattle.mmc_card.specs.Faults.{NoFault}
 use Rattle.mmc_card.proofs.Passing.{still_in}
 use Rattle.mmc_card.specs.Laws.{IsStill, Setting, Stands, setting_of}
-use Rattle.mmc_card.specs.Made.{Made, sectors_in}
+use Rattle.mmc_card.specs.Made.{Made, has_cmd23, sectors_in}
 use Rattle.mmc_card.specs.RowsSwitch.{timing_number, width_number}
 use Rattle.mmc_bus.specs.Learned.{Stays}
 use Rattle.mmc_bus.specs.Work.{StaysSet, Worked}
-use Rattle.mmc_switch.specs.Info.{IsInfo}
+use Rattle.mmc_switch.specs.Info.{IsInfo, IsInfoWith, IsKnown, trims_of}
+use Rattle.mmc_switch.specs.declared.info.Info.{Info}
 use Rattle.mmc_switch.specs.Place.{IsBroken, IsPartOf, IsReady, Knows, StandsAs, setting_in}
 use Rattle.mmc_switch.specs.Stages.{lines_of}
 use Rattle.mmc_switch.specs.UnderWay.{HasFailed, IsIdle, IsQuiet, IsUnderWay, faults_then, known_part, part_of, room_of}
@@ -87,14 +88,64 @@ pub said_before : (Says : Lines → Made → Type 0) (a b : BusView) → Stays a
 said_before Says a b stays says =
     subst (λ l. Says l a.card.made) stays.limits (subst (Says b.limits) stays.carried.made says)
 
+-- with other uses of trims and of CMD23
+info_using : (Uses Other : Bool → Bool → Type 0) (limits : Lines) (made : Made) (info : Info) (trims cmd23 : Bool)
+    → IsInfoWith Uses limits made info → Other trims (trims_of made) → Other cmd23 (has_cmd23 made)
+    → IsInfoWith Other limits made (record info { trims = trims; cmd23 = cmd23 })
+info_using Uses Other limits made info trims cmd23 k use_trims use_cmd23 = record {
+  kind = k.kind;
+  addressing = k.addressing;
+  rca = k.rca;
+  cid = k.cid;
+  csd = k.csd;
+  sizes = k.sizes;
+  read_only = k.read_only;
+  erase_unit = k.erase_unit;
+  erased_byte = k.erased_byte;
+  trims = use_trims;
+  cmd23 = use_cmd23;
+  width = k.width;
+  timing = k.timing;
+}
+
+abbrev NoMore : Bool → Bool → Type 0
+NoMore used has = used ≡ true → has ≡ true
+
+-- who uses all that a card has uses no more
+pub uses_all : (limits : Lines) (made : Made) (info : Info) → IsInfo limits made info → IsKnown limits made info
+uses_all limits made info k =
+    info_using (λ used has. used ≡ has) NoMore limits made info info.trims info.cmd23 k (λ used. sym k.trims ∙ used)
+    (λ used. sym k.cmd23 ∙ used)
+
 pub knows_then : (session : Session) (a b : BusView) → Stays a b → Knows session a → Knows session b
 knows_then session a b stays knows = record {
-  info = said_after (λ limits made. IsInfo limits made session.info) a b stays knows.info;
+  info = said_after (λ limits made. IsKnown limits made session.info) a b stays knows.info;
   partition_config =
       subst (λ (made : Made). made.kind ≡ Mmc
       → field 7 3 session.partition_config ≡ field 7 3 (partition_config made.ext_csd)) (sym stays.carried.made)
       knows.partition_config;
 }
+
+-- who uses less of it is as ready
+no_more : (used less has : Bool) → (used ≡ true → has ≡ true) → (used && less) ≡ true → has ≡ true
+no_more true less has all some = all refl
+no_more false less has all some = cc some
+
+pub ready_using : (session : Session) (trims counts : Bool) (view : BusView) → IsReady session view
+    → IsReady (record session { info = record session.info { trims = session.info.trims && trims; cmd23 = session.info.cmd23 && counts } }) view
+ready_using session trims counts view r =
+    let info = session.info in
+    let k = r.knows.info in
+    record {
+      is_card = r.is_card;
+      knows = record {
+        info = info_using NoMore NoMore view.limits view.card.made info (info.trims && trims) (info.cmd23 && counts) k
+            (no_more info.trims trims _ k.trims) (no_more info.cmd23 counts _ k.cmd23);
+        partition_config = r.knows.partition_config;
+      };
+      set = r.set;
+      part = record { known = r.part.known; sd = r.part.sd };
+    }
 
 pub stands_then : (session : Session) (a b : BusView) → StaysSet a b → StandsAs session a → StandsAs session b
 stands_then session a b set stands = record {

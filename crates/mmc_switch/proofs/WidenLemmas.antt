@@ -34,13 +34,13 @@ use Rattle.mmc_bus.specs.Work.{Moved}
 use Rattle.mmc_switch.proofs.FetchLemmas.{SendsExtCsd}
 use Rattle.mmc_switch.proofs.SdLemmas.{SetsUp as SetsUpSd}
 use Rattle.mmc_switch.proofs.SwitchLemmas.{SetsUp as SetsUpMmc}
-use Rattle.mmc_switch.proofs.UnderWayLemmas.{knows_then}
+use Rattle.mmc_switch.proofs.UnderWayLemmas.{knows_then, said_after, uses_all}
 use Rattle.mmc_bus.proofs.WorkLemmas.{both, fell, moved_as, refuted}
 use Rattle.mmc_identify.specs.Stages.{IsFound, IsLeft}
 use Rattle.mmc_identify.specs.declared.found.Found.{Found}
 use Rattle.mmc_switch.proofs.InfoLemmas.{byte_told, count_kept, mmc_speed, number_is}
 use Rattle.mmc_switch.specs.Info.{IsInfo, erase_group_def_of, has_high_timing, timing_over, width_over}
-use Rattle.mmc_switch.specs.Place.{IsReady, Knows, setting_in}
+use Rattle.mmc_switch.specs.Place.{IsInitialized, Knows, setting_in}
 use Rattle.mmc_switch.specs.Stages.{IsSet, IsToldOf, first_lines, first_setting, user_setting}
 use Rattle.mmc_switch.specs.declared.fault.SwitchFault.{SwitchFault}
 use Rattle.mmc_switch.specs.declared.info.Info.{Info}
@@ -76,18 +76,24 @@ ready_set session rca width timing group view r w t e set =
 
 -- what is known of the card before is known of it after
 ready : (session : Session) (rca : ℕ) (width : Width) (timing : Timing) (group : ℕ) (a b : BusView) → IsCard b.card
-    → Stays a b → Knows session a → session.selected ≡ Some User
+    → Stays a b → IsInfo a.limits a.card.made session.info
+    → (a.card.made.kind ≡ Mmc → field 7 3 session.partition_config ≡ field 7 3 (partition_config a.card.made.ext_csd))
+    → session.selected ≡ Some User
     → session.info.rca ≡ rca → session.info.width ≡ width → session.info.timing ≡ timing
     → erase_group_def_of a.card.made.kind ≡ group → IsSet false (user_setting rca width timing group) b
-    → IsReady session b
-ready session rca width timing group a b card stays knows selected r w t e set =
+    → IsInitialized session b
+ready session rca width timing group a b card stays info config selected r w t e set =
     let user : b.card.part ≡ User = ap (λ (s : Setting). s.part) set.is_set in
+    let knows : Knows session a = record { info = uses_all a.limits a.card.made session.info info; partition_config = config } in
     record {
-      is_card = card;
-      knows = knows_then session a b stays knows;
-      set =
-          ready_set session rca width timing group b r w t (ap erase_group_def_of knows.info.kind ∙ e) set;
-      part = record { known = λ known is. user ∙ cc (selected, is); sd = λ sd. user };
+      ready = record {
+        is_card = card;
+        knows = knows_then session a b stays knows;
+        set = ready_set session rca width timing group b r w t (ap erase_group_def_of info.kind ∙ e) set;
+        part = record { known = λ known is. user ∙ cc (selected, is); sd = λ sd. user };
+      };
+      selected = selected;
+      info = said_after (λ limits made. IsInfo limits made session.info) a b stays info;
     }
 
 -- An SD card.
@@ -97,7 +103,7 @@ abbrev pub WidensKind : Kind → Found → Result Session SwitchFault → BusVie
 WidensKind kind found r a b =
     Moved (λ old new. old.card.made.kind ≡ kind → IsFound old.card.made found
     → IsSet false (first_setting found.rca) old
-    → IfOk r (λ session. IsReady session new × (session.selected ≡ Some User)))
+    → IfOk r (λ session. IsInitialized session new))
     (λ old new. old.card.made.kind ≡ kind → InProfile old.card.made → IsFound old.card.made found
     → IsSet false (first_setting found.rca) old → IsOk r) a b
 
@@ -140,15 +146,10 @@ sd_widened found switches told up said info session a b e some opened class says
     (λ is own set.
     let done = IfOk-at_ok _ e
     (p.own is (class_found found switches made p.was_card.registers own class) set) in
-    let knows : Knows (first_session info 0) a = record {
-      info = subst (λ o. IfSome o (IsInfo a.limits made)) some (says a.limits made p.was_card.registers is own done.0);
-      partition_config = λ mmc. cc (is, mmc);
-    } in (
-      ready (first_session info 0) found.rca told.width told.timing 0 a b p.is_card p.stays knows refl
-          (subst (λ (o : Option Info). IfSome o (λ info. info.rca ≡ found.rca)) some named) at.0 at.1 (rw is refl)
-          done.1,
-      refl,
-    ))
+    ready (first_session info 0) found.rca told.width told.timing 0 a b p.is_card p.stays
+    (subst (λ o. IfSome o (IsInfo a.limits made)) some (says a.limits made p.was_card.registers is own done.0))
+    (λ mmc. cc (is, mmc)) refl (subst (λ (o : Option Info). IfSome o (λ info. info.rca ≡ found.rca)) some named) at.0 at.1
+    (rw is refl) done.1)
     (λ same is profile own set. refl))
 
 -- An eMMC device.
@@ -291,15 +292,10 @@ mmc_widened found block lines sent up info config session limits a b c e host wi
     (λ is own set.
     let o = all.own is set in
     let user : a.card.part ≡ User = ap (λ (s : Setting). s.part) set.is_set in
-    let knows : Knows (first_session info config) a = record {
-      info = says a.limits a.card registers is own o.0
-          (width ∙ ap (λ (l : Lines). l.width) host ∙ sym (width_is a.limits made is)) o.1;
-      partition_config = λ mmc. ap (field 7 3) by ∙ config_kept a.card block registers is user o.0;
-    } in (
-      ready (first_session info config) found.rca lines.width lines.timing 1 a c all.is_card all.stays knows refl named
-          shown.0 shown.1 (rw is refl) (o.2 (sym done)),
-      refl,
-    ))
+    ready (first_session info config) found.rca lines.width lines.timing 1 a c all.is_card all.stays
+    (says a.limits a.card registers is own o.0 (width ∙ ap (λ (l : Lines). l.width) host ∙ sym (width_is a.limits made is)) o.1)
+    (λ mmc. ap (field 7 3) by ∙ config_kept a.card block registers is user o.0) refl named shown.0 shown.1 (rw is refl)
+    (o.2 (sym done)))
     (λ same is profile own set. refl))
 
 -- A card of any kind.
@@ -308,7 +304,7 @@ mmc_widened found block lines sent up info config session limits a b c e host wi
 abbrev pub Widens : Found → Result Session SwitchFault → BusView → BusView → Type 0
 Widens found r a b =
     Moved (λ old new. IsFound old.card.made found → IsSet false (first_setting found.rca) old
-    → IfOk r (λ session. IsReady session new × (session.selected ≡ Some User)))
+    → IfOk r (λ session. IsInitialized session new))
     (λ old new. InProfile old.card.made → IsFound old.card.made found → IsSet false (first_setting found.rca) old
     → IsOk r) a b
 
@@ -329,7 +325,7 @@ abbrev pub WidensLeft : Found → Result Session SwitchFault → BusView → Bus
 WidensLeft found r a b =
     Moved (λ old new. IsFound old.card.made found → IsLeft found.rca old.card
     → old.lines ≡ first_lines
-    → IfOk r (λ session. IsReady session new × (session.selected ≡ Some User)))
+    → IfOk r (λ session. IsInitialized session new))
     (λ old new. InProfile old.card.made → IsFound old.card.made found → IsLeft found.rca old.card
     → old.lines ≡ first_lines → IsOk r) a b
 

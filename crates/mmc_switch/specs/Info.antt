@@ -1,6 +1,6 @@
 -- Headline (docs/AUDIT.md, "What to read").
 -- What a host knows of a card, and what the card's registers say of it; of width and timing, what card and host can together.
-use Rattle.std.specs.Prelude.{◌&&◌, ◌==◌, ◌≡◌, ◌⊎◌, Bool, Ok, Option, false, if◌then◌else◌, ℕ}
+use Rattle.std.specs.Prelude.{◌&&◌, ◌==◌, ◌≡◌, ◌⊎◌, Bool, Ok, Option, false, if◌then◌else◌, true, ℕ}
 use Rattle.mmc_frame.specs.declared.kind.Kind.{Kind}
 use Rattle.mmc_frame.specs.declared.kind.Kind.TheVariants.{Mmc, Sd}
 use Rattle.mmc_regs.specs.Csd.{csd_in}
@@ -70,8 +70,9 @@ lasting_timing Mmc timing = timing
 abbrev pub lasting : Info → Info
 lasting info = record info { rca = 1; timing = lasting_timing info.kind info.timing }
 
--- what the host knows of the card is what its registers say; its width and timing are those that a host with these limits has too
-pub record IsInfo (limits : Lines) (made : Made) (info : Info) : Type 0 where
+-- What the host knows of the card is what its registers say; its width and timing are those that a host with these limits has too.
+-- Of trims and of CMD23 this holds between what is used and what the card has.
+pub record IsInfoWith (Uses : Bool → Bool → Type 0) (limits : Lines) (made : Made) (info : Info) : Type 0 where
   pub kind : info.kind ≡ made.kind
   pub addressing : info.addressing ≡ addressing_of made
   pub rca : IsRcaOf made info.rca
@@ -82,7 +83,19 @@ pub record IsInfo (limits : Lines) (made : Made) (info : Info) : Type 0 where
   pub read_only : info.read_only ≡ is_read_only made
   pub erase_unit : info.erase_unit ≡ erase_unit_of_card made
   pub erased_byte : info.erased_byte ≡ erased_byte_of_card made
-  pub trims : info.trims ≡ trims_of made
-  pub cmd23 : info.cmd23 ≡ has_cmd23 made
+  pub trims : Uses info.trims (trims_of made)
+  pub cmd23 : Uses info.cmd23 (has_cmd23 made)
   pub width : info.width ≡ width_over limits made
   pub timing : IsTimingOver limits made info.timing
+
+-- all that the card has is used
+abbrev pub IsInfo : Lines → Made → Info → Type 0
+IsInfo = IsInfoWith (λ used has. used ≡ has)
+
+-- no more is used than the card has
+abbrev pub IsKnown : Lines → Made → Info → Type 0
+IsKnown = IsInfoWith (λ used has. used ≡ true → has ≡ true)
+
+-- the same, but that trims and CMD23 aren't used where the other doesn't use them
+abbrev pub used_as : Info → Info → Info
+used_as other info = record info { trims = info.trims && other.trims; cmd23 = info.cmd23 && other.cmd23 }

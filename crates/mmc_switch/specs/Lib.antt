@@ -1,6 +1,7 @@
 pub mod Address
 pub mod Ending
 pub mod Info
+pub mod KnownFaults
 pub mod Place
 pub mod Sizes
 pub mod Stages

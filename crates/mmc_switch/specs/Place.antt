@@ -8,7 +8,7 @@ use Rattle.mmc_card.specs.declared.part.Part.TheVariants.{User}
 use Rattle.mmc_card.specs.BusView.{BusView}
 use Rattle.mmc_card.specs.Card.{IsCard}
 use Rattle.mmc_card.specs.Laws.{Setting, Stands}
-use Rattle.mmc_switch.specs.Info.{IsInfo, erase_group_def_of}
+use Rattle.mmc_switch.specs.Info.{IsInfo, IsKnown, erase_group_def_of}
 use Rattle.mmc_switch.specs.Stages.{IsSet, lines_of}
 use Rattle.mmc_switch.specs.declared.broken.Broken.{Broken}
 use Rattle.mmc_switch.specs.declared.info.Info.{Info}
@@ -26,9 +26,10 @@ setting_in info part =
       block_length = 512;
     }
 
--- the session knows what the card's registers say and what the host can, and bits 7 to 3 of PARTITION_CONFIG
+-- the session knows what the card's registers say and what the host can, uses no more of it, and knows bits 7 to 3 of
+-- PARTITION_CONFIG
 pub record Knows (session : Session) (view : BusView) : Type 0 where
-  pub info : IsInfo view.limits view.card.made session.info
+  pub info : IsKnown view.limits view.card.made session.info
   pub partition_config : view.card.made.kind ≡ Mmc
       → field 7 3 session.partition_config ≡ field 7 3 (partition_config view.card.made.ext_csd)
 
@@ -43,6 +44,12 @@ pub record IsReady (session : Session) (view : BusView) : Type 0 where
   pub knows : Knows session view
   pub set : IsSet false (setting_in session.info view.card.part) view
   pub part : IsPartOf session view.card.part
+
+-- Initialized: ready, with the user partition selected, and all that the card has is used.
+pub record IsInitialized (session : Session) (view : BusView) : Type 0 where
+  pub ready : IsReady session view
+  pub selected : session.selected ≡ Some User
+  pub info : IsInfo view.limits view.card.made session.info
 
 -- the card stands as the session says, in some state, or it is as after CMD0, error bits apart
 pub record StandsAs (session : Session) (view : BusView) : Type 0 where

@@ -3,6 +3,7 @@ ghost use Rattle.mmc_ext_csd.specs.Partition.{addressable_sectors};
 ghost use Rattle.mmc_card.specs.declared.part.Part.{Part};
 ghost use Rattle.mmc_switch.specs.Sizes.{size_of};
 
+use crate::known_faults::{locks_up_at_cmd23, loses_by_trim};
 use crate::sizes::{Sizes, some_size};
 use mmc_bus::{Part, Timing, Width};
 use mmc_frame::{Addressing, Kind};
@@ -29,9 +30,9 @@ pub struct Info {
     pub erase_unit: u64,
     /// What each byte of an erased sector holds, 00h or FFh.
     pub erased_byte: u8,
-    /// Whether it trims.
+    /// Whether trims are used, which it has then.
     pub trims: bool,
-    /// Whether it takes CMD23, SET_BLOCK_COUNT.
+    /// Whether CMD23, SET_BLOCK_COUNT, is used, which it has then.
     pub cmd23: bool,
     /// How many lines are used: the most that card and host have.
     pub width: Width,
@@ -45,7 +46,8 @@ impl Info {
     ghost use Rattle.std.specs.Prelude.{◌≡◌, true};
     ghost use Rattle.mmc_card.specs.Made.{Made};
     ghost use Rattle.mmc_card.specs.declared.exchange.Lines.{Lines};
-    ghost use Rattle.mmc_switch.specs.Info.{IsInfo, lasting, sectors_of};
+    ghost use Rattle.mmc_switch.specs.Info.{IsInfo, IsKnown, lasting, sectors_of, used_as};
+    ghost use Rattle.mmc_switch.specs.KnownFaults.{heeding};
 
     /// The size of a partition in sectors of 512 bytes, or `None` where the card has no such partition, or one without a
     /// sector.
@@ -69,11 +71,32 @@ impl Info {
         lasting
     }
 
-    /// Whether this and what else is known of a card are the same for good. What is known of one card over one host always is.
+    /// The same, but that trims and CMD23 aren't used where the other doesn't use them.
+    pub fn used_as(&self, other: &Info) -> Info
+        ensures { result ≡ used_as other.now self.now }
+    {
+        let mut used = *self;
+        used.trims = self.trims && other.trims;
+        used.cmd23 = self.cmd23 && other.cmd23;
+        used
+    }
+
+    /// The same, but that what cards of this make are known to do wrong isn't used.
+    pub fn heeding_known_faults(&self) -> Info
+        ensures { result ≡ heeding self.now }
+    {
+        let mut used = *self;
+        used.trims = self.trims && !loses_by_trim(self.kind, self.cid);
+        used.cmd23 = self.cmd23 && !locks_up_at_cmd23(self.kind, self.cid);
+        used
+    }
+
+    /// Whether this and what else is known of a card are the same for good. What is known of one card over one host always is,
+    /// once no more of it is used than before.
     pub fn is_same(&self, other: &Info) -> bool
         ensures same { result ≡ true → lasting self.now ≡ lasting other.now }
-        ensures known { (limits : Lines) → (made : Made) → IsInfo limits made self.now → IsInfo limits made other.now
-            → result ≡ true }
+        ensures known { (limits : Lines) → (made : Made) → (whole : Info) → IsInfo limits made whole
+            → IsKnown limits made other.now → self.now ≡ used_as other.now whole → result ≡ true }
     {
         self.lasting() == other.lasting()
     }

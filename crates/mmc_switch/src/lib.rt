@@ -6,6 +6,7 @@ mod ending;
 mod fault;
 mod info;
 mod initialization;
+mod known_faults;
 mod mmc;
 mod opening;
 mod progress;

@@ -15,7 +15,7 @@ ghost use Rattle.mmc_bus.specs.CommandLaws.{HasSwitchError};
 ghost use Rattle.mmc_bus.specs.Work.{Done, Ends, Moves, MovesFrom, Narrows};
 ghost use Rattle.mmc_identify.specs.Stages.{IsFound};
 ghost use Rattle.mmc_switch.specs.Info.{has_high_timing};
-ghost use Rattle.mmc_switch.specs.Place.{IsReady};
+ghost use Rattle.mmc_switch.specs.Place.{IsInitialized};
 ghost use Rattle.mmc_switch.specs.Stages.{IsAtRest, IsSet, MayStandIn, first_setting, user_setting};
 
 use crate::ending::EXCHANGES_OF_AN_ENDING;
@@ -230,7 +230,7 @@ pub fn widen<B: Bus>(bus: &mut B, found: &Found) -> Result<Session, SwitchFault>
     ensures moves { Moves
         (λ old new. old.card.made.kind ≡ Mmc → IsFound old.card.made found.now
         → IsSet false (first_setting found.now.rca) old
-        → IfOk result (λ session. IsReady session new × (session.selected ≡ Some User)))
+        → IfOk result (λ session. IsInitialized session new))
         (λ old new. old.card.made.kind ≡ Mmc → InProfile old.card.made → IsFound old.card.made found.now
         → IsSet false (first_setting found.now.rca) old → IsOk result)
         (B.view bus.old) (B.view bus.new) }

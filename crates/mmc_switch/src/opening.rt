@@ -4,7 +4,7 @@ ghost use Rattle.std.specs.Prelude.{◌+◌, ◌≡◌, ◌≤◌, IfOk, IsErr, 
 ghost use Rattle.mmc_card.specs.Profile.{InProfile};
 ghost use Rattle.mmc_card.specs.declared.part.Part.TheVariants.{User};
 ghost use Rattle.mmc_bus.specs.Work.{Moves};
-ghost use Rattle.mmc_switch.specs.Place.{IsReady};
+ghost use Rattle.mmc_switch.specs.Place.{IsInitialized};
 
 use crate::initialization::{EXCHANGES_OF_AN_INITIALIZATION, InitializationFault, initialize};
 use crate::session::Session;
@@ -21,7 +21,7 @@ pub fn open_card<B: Bus>(bus: &mut B) -> Result<Session, InitializationFault>
     ensures bounded { (B.view bus.new).exchanges ≤ (B.view bus.old).exchanges + EXCHANGES_OF_AN_OPENING }
     ensures user { IfOk result (λ session. session.selected ≡ Some User) }
     ensures moves { Moves
-        (λ old new. IfOk result (λ session. IsReady session new))
+        (λ old new. IfOk result (λ session. IsInitialized session new))
         (λ old new. InProfile old.card.made → IsOk result)
         (B.view bus.old) (B.view bus.new) }
     ensures refused { (B.view bus.new).is_kept ≡ true → InProfile (B.view bus.old).card.made → IsErr result

@@ -12,7 +12,7 @@ ghost use Rattle.mmc_card.specs.declared.part.Part.TheVariants.{User};
 ghost use Rattle.mmc_bus.specs.Work.{Moves, MovesFrom};
 ghost use Rattle.mmc_identify.specs.Stages.{IsFound};
 ghost use Rattle.mmc_switch.specs.Info.{IsTimingOver, width_over};
-ghost use Rattle.mmc_switch.specs.Place.{IsReady};
+ghost use Rattle.mmc_switch.specs.Place.{IsInitialized};
 ghost use Rattle.mmc_switch.specs.Stages.{HasSwitched, IsSet, IsSetOver, IsToldOf, first_setting, lines_of, user_setting};
 
 use crate::fault::SwitchFault;
@@ -240,7 +240,7 @@ pub fn widen<B: Bus>(bus: &mut B, found: &Found) -> Result<Session, SwitchFault>
     ensures moves { Moves
         (λ old new. old.card.made.kind ≡ Sd → IsFound old.card.made found.now
         → IsSet false (first_setting found.now.rca) old
-        → IfOk result (λ session. IsReady session new × (session.selected ≡ Some User)))
+        → IfOk result (λ session. IsInitialized session new))
         (λ old new. old.card.made.kind ≡ Sd → InProfile old.card.made → IsFound old.card.made found.now
         → IsSet false (first_setting found.now.rca) old → IsOk result)
         (B.view bus.old) (B.view bus.new) }

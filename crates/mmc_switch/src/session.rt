@@ -1,6 +1,10 @@
 ghost use Rattle.std.specs.Prelude.{◌≡◌, ◌<◌, IsSome, None, Some, false};
 ghost use Rattle.mmc_card.specs.declared.part.Part.TheVariants.{User};
+ghost use Rattle.mmc_card.specs.BusView.{BusView};
 ghost use Rattle.mmc_switch.specs.Address.{address_of};
+ghost use Rattle.mmc_switch.specs.Info.{used_as};
+ghost use Rattle.mmc_switch.specs.KnownFaults.{heeding};
+ghost use Rattle.mmc_switch.specs.Place.{IsReady};
 ghost use Rattle.mmc_switch.specs.UnderWay.{broken_off, room_of};
 
 use crate::broken::Broken;
@@ -95,6 +99,31 @@ impl Session {
         match self.info.addressing {
             Addressing::Bytes => (512 * sector) as u32,
             Addressing::Sectors => sector as u32,
+        }
+    }
+
+    /// The same session, but that trims and CMD23 aren't used where what else is known of the card doesn't use them.
+    pub fn used_as(self, other: &Info) -> Session
+        ensures uses { result ≡ record self { info = used_as other.now self.info } }
+        ensures ready { (view : BusView) → IsReady self view → IsReady result view }
+    {
+        Session {
+            info: self.info.used_as(other),
+            partition_config: self.partition_config,
+            selected: self.selected,
+        }
+    }
+
+    /// The same session, but that what cards of this make are known to do wrong isn't used: trims of some eMMC devices, which lose
+    /// other sectors by them, and CMD23 of some SD cards, which lock up at it.
+    pub fn heeding_known_faults(self) -> Session
+        ensures heeds { result ≡ record self { info = heeding self.info } }
+        ensures ready { (view : BusView) → IsReady self view → IsReady result view }
+    {
+        Session {
+            info: self.info.heeding_known_faults(),
+            partition_config: self.partition_config,
+            selected: self.selected,
         }
     }
 

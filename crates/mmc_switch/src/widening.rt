@@ -14,7 +14,7 @@ ghost use Rattle.mmc_card.specs.Profile.{InProfile};
 ghost use Rattle.mmc_card.specs.declared.part.Part.TheVariants.{User};
 ghost use Rattle.mmc_bus.specs.Work.{Moves};
 ghost use Rattle.mmc_identify.specs.Stages.{IsFound, IsLeft};
-ghost use Rattle.mmc_switch.specs.Place.{IsReady};
+ghost use Rattle.mmc_switch.specs.Place.{IsInitialized};
 ghost use Rattle.mmc_switch.specs.Stages.{IsSet, first_lines, first_setting};
 ghost use Rattle.mmc_switch.specs.declared.mmc.TheConstants.{EXCHANGES_OF_A_SWITCH};
 
@@ -49,7 +49,7 @@ fn widen_by_kind<B: Bus>(bus: &mut B, found: &Found) -> Result<Session, SwitchFa
     ensures user { IfOk result (λ session. session.selected ≡ Some User) }
     ensures moves { Moves
         (λ old new. IsFound old.card.made found.now → IsSet false (first_setting found.now.rca) old
-        → IfOk result (λ session. IsReady session new × (session.selected ≡ Some User)))
+        → IfOk result (λ session. IsInitialized session new))
         (λ old new. InProfile old.card.made → IsFound old.card.made found.now
         → IsSet false (first_setting found.now.rca) old → IsOk result)
         (B.view bus.old) (B.view bus.new) }
@@ -71,7 +71,7 @@ pub fn widen<B: Bus>(bus: &mut B, found: Found) -> Result<Session, SwitchFault>
     ensures user { IfOk result (λ session. session.selected ≡ Some User) }
     ensures moves { Moves
         (λ old new. IsFound old.card.made found → IsLeft found.rca old.card → old.lines ≡ first_lines
-        → IfOk result (λ session. IsReady session new × (session.selected ≡ Some User)))
+        → IfOk result (λ session. IsInitialized session new))
         (λ old new. InProfile old.card.made → IsFound old.card.made found → IsLeft found.rca old.card
         → old.lines ≡ first_lines → IsOk result)
         (B.view bus.old) (B.view bus.new) }

@@ -19,6 +19,10 @@ mod host_table;
 #[cfg(test)]
 mod identify;
 #[cfg(test)]
+mod known_faults;
+#[cfg(test)]
+mod lagging;
+#[cfg(test)]
 mod settle;
 #[cfg(test)]
 mod trace;

@@ -1,7 +1,7 @@
 // Settling by buses that lie.
 use crate::cards::*;
 use mmc_bus::TraceBus;
-use mmc_recovery::{settle, settle_patiently};
+use mmc_recovery::{Patience, settle, settle_with};
 use mmc_switch::Cause;
 use std::alloc::Global;
 use std::test::Fail;
@@ -63,7 +63,11 @@ fn settled_patiently_by(alloc: Global, said: &[Said]) -> Result<(bool, bool, usi
     let mut bus = saying(alloc, said)?;
     let session = opened(&mut bus).ok_or("not opened")?;
     let mut bus = TraceBus::new(alloc, bus, 160).ok().ok_or("no trace")?;
-    let (settled, was_reset) = settle_patiently(&mut bus, session.break_off(Cause::Answer));
+    let (settled, was_reset) = settle_with(
+        &mut bus,
+        session.break_off(Cause::Answer),
+        Patience::Twice,
+    );
     Ok((settled.is_ok(), was_reset, bus.len()))
 }
 

@@ -69,13 +69,13 @@ can_end job blocks =
       no = λ programs polls card exact fits part.
           each_way job.way (λ reads stopped. quiet_rested job blocks polls card stopped.0.0 stopped.0.2 stopped.1)
           (λ is ending. writes.no programs polls card ending fits part) exact;
-      works = λ waits card new exact shows none counts.
+      works = λ waits card new exact shows none unset counts.
           each_way job.way
           (λ reads stopped. (
-            (idle_after card new shows none stopped.0.0, lags_on waits card new stopped.0.1 counts),
+            (idle_after card new shows none unset stopped.0.0, lags_on waits card new stopped.0.1 counts),
             subst (AreStored job.count job blocks) (sym shows) stopped.1,
           ))
-          (λ is ending. writes.works waits card new ending shows none counts) exact;
+          (λ is ending. writes.works waits card new ending shows none unset counts) exact;
       idle = λ waits card exact.
           either_way job.way (λ reads stopped. stopped.0.0) (λ is ending. writes.idle waits card ending) exact;
       lags = λ waits card exact.

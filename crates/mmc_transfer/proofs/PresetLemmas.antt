@@ -56,7 +56,7 @@ module _ (job : Job) (blocks : List Sector) (faults : ℕ) (kind : Kind) (a b : 
           erase = idle.quiet.erase;
           no_error = no_error kind 0 a.card idle.quiet;
         };
-        knows = sym at.under_way.knows.info.cmd23 ∙ (knows_by job.session.info.cmd23 job.count fits).0;
+        knows = at.under_way.knows.info.cmd23 (knows_by job.session.info.cmd23 job.count fits).0;
       }
 
   pub preset_fails : (result : Result (Option Phase) Cause) → IsErr result → Presets kind job.count false a b

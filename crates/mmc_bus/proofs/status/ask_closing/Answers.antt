@@ -27,5 +27,5 @@ returns-clause-works g c kept =
     let facts = k.step.at_once (still_in old.card Tran order.1.tran refl refl order.1.rests) in
     let told = (c.cmd13_tells_the_status.ensures _ _ _ _ facts).fine same (ap is_identified order.1.tran, app, names ∙ sym rca) in
     told_soon c.args.kind old.card new.card c.ask.result c.check_closing.result k.was_card
-    tells.clean tells.lagging tells.lags_unclean told.0 told.1 told.2 order
+    tells.clean tells.lagging tells.lags_unclean told.0 told.1 told.2 told.3 order
     c.check_closing.ensures.all_clean c.check_closing.ensures.all_at_work)

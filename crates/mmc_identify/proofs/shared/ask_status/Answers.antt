@@ -35,7 +35,7 @@ returns-clause-moves g c kept =
     let unlocked = told_unlocked rca told.0 old.card new.card is profile tells.locked told.2 in
     let only : (n : ℕ) → c.ask.result ≡ Ok n → n ≡ told.0 = λ n h. same_ok n told.0 (sym h ∙ told.1) in
     let soon = told_soon kind old.card new.card c.ask.result c.confirmed.result k.was_card tells.clean tells.lagging
-    tells.lags_unclean told.0 told.1 told.2 (of, resting_in_order rca waits kind old.card resting)
+    tells.lags_unclean told.0 told.1 told.2 told.3 (of, resting_in_order rca waits kind old.card resting)
     (λ n h clean. judged.all_clean n h (ap (field 25 25) (only n h) ∙ unlocked) clean)
     (λ n h unclean works. judged.all_at_work n h (ap (field 25 25) (only n h) ∙ unlocked) unclean works) in
     closing_fine rca waits kind old.card new.card c.confirmed.result

@@ -10,7 +10,7 @@ returns-in-Ok-clause-info g c kept =
 pub returns-in-Ok-clause-machine : goal.returns-in-Ok-clause-machine
 returns-in-Ok-clause-machine g c kept counted is =
     rw c.new.ensures (opens_agreed g.B.Bus.view c.open_card.new.bus c.lasting.result c.in-Ok.session c.new-in-Ok.result counted
-    (c.in-Ok.ensures.moves kept).own is)
+    (c.in-Ok.ensures.moves kept).own.ready is)
 
 pub returns-in-Err-clause-stays : goal.returns-in-Err-clause-stays
 returns-in-Err-clause-stays g c kept =

@@ -36,7 +36,7 @@ loop-done-preserved g c =
           (subst (λ block. BlockWritten ready block c.write_data-got.result new) c.block.ensures
           (one_of ready new (Out c.write_data-got.result) _ wrote.exchanged))));
       plan = wrote.plan ∙ rested.plan ∙ h.plan;
-      faults = λ none. no_write_fails c.is_ready_after.new.self.plan _ _ _ _ _ (rested.plan ∙ h.plan ∙ none) wrote.counts
+      faults = λ none. no_write_fails c.is_ready_after.new.self.plan _ _ _ _ _ _ (rested.plan ∙ h.plan ∙ none) wrote.counts
           ∙ rested.faults (h.plan ∙ none) ∙ h.faults none;
     }
 
@@ -54,7 +54,7 @@ returns-then-not-is_accepted g c =
           (subst (λ block. BlockWritten ready block c.write_data-got.result new) c.block.ensures
           (one_of ready new (Out c.write_data-got.result) _ wrote.exchanged));
       plan = wrote.plan ∙ rested.plan ∙ h.plan;
-      faults = λ none. no_write_fails c.is_ready_after.new.self.plan _ _ _ _ _ (rested.plan ∙ h.plan ∙ none) wrote.counts
+      faults = λ none. no_write_fails c.is_ready_after.new.self.plan _ _ _ _ _ _ (rested.plan ∙ h.plan ∙ none) wrote.counts
           ∙ rested.faults (h.plan ∙ none) ∙ h.faults none;
     }
 

@@ -13,7 +13,7 @@ returns-then-not-is_smooth-clause-read g c = record {
 
 pub returns-then-not-is_smooth-clause-faults : goal.returns-then-not-is_smooth-clause-faults
 returns-then-not-is_smooth-clause-faults g c = λ none.
-    no_command_fails c.args.self.now.plan _ _ _ _ _ _ none c.command-reply.ensures.counts
+    no_command_fails c.args.self.now.plan _ _ _ _ _ _ _ none c.command-reply.ensures.counts
 
 pub returns-clause-read : goal.returns-clause-read
 returns-clause-read g c = record {
@@ -25,4 +25,4 @@ returns-clause-read g c = record {
 pub returns-clause-faults : goal.returns-clause-faults
 returns-clause-faults g c = λ none.
     c.read_blocks.ensures.faults (c.command-reply.ensures.plan ∙ none)
-    ∙ no_command_fails c.args.self.now.plan _ _ _ _ _ _ none c.command-reply.ensures.counts
+    ∙ no_command_fails c.args.self.now.plan _ _ _ _ _ _ _ none c.command-reply.ensures.counts

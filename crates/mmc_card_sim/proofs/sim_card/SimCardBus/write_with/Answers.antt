@@ -14,7 +14,7 @@ returns-then-not-is_smooth-clause-written g c = record {
 
 pub returns-then-not-is_smooth-clause-faults : goal.returns-then-not-is_smooth-clause-faults
 returns-then-not-is_smooth-clause-faults g c = λ none.
-    no_command_fails c.args.self.now.plan _ _ _ _ _ _ none c.command-reply.ensures.counts
+    no_command_fails c.args.self.now.plan _ _ _ _ _ _ _ none c.command-reply.ensures.counts
 
 pub returns-clause-written : goal.returns-clause-written
 returns-clause-written g c = record {
@@ -27,4 +27,4 @@ returns-clause-written g c = record {
 pub returns-clause-faults : goal.returns-clause-faults
 returns-clause-faults g c = λ none.
     c.write_blocks.ensures.faults (c.command-reply.ensures.plan ∙ none)
-    ∙ no_command_fails c.args.self.now.plan _ _ _ _ _ _ none c.command-reply.ensures.counts
+    ∙ no_command_fails c.args.self.now.plan _ _ _ _ _ _ _ none c.command-reply.ensures.counts
