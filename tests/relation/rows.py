@@ -7,6 +7,10 @@ from card import ADDRESS_ERROR, BLOCK_LEN_ERROR, ERASE_PARAM, ERASE_RESET, ERASE
 from card import DATA, IDENT, IDLE, PATIENCE, PRG, RCV, READY, SD, STBY, TRAN, UNKNOWN, MMC, Answer
 from card import busied, done, field, has_sector_addresses, raised, refused, resets, sectors_in, shown, waited
 
+# The commands that may find an error, so that they aren't carried out and say why: all with an R1 but CMD7, CMD12 and CMD13.
+MAY_FIND = ("set_relative_addr", "send_ext_csd", "set_blocklen", "read", "set_block_count", "write", "erase_start", "erase_end", "erase",
+            "switch", "switch_func", "set_bus_width", "send_scr", "app_cmd")
+
 
 class Rows:
     """Of a card that is made so. A row yields a card after the command, its answer, and whether that is a fault by itself."""
@@ -60,6 +64,8 @@ class Rows:
             card = card._replace(erase=(), may=card.may | ERASE_RESET)
         if self.is_legal(name, card):
             yield from getattr(self, name)(card, index, argument)
+            if name in MAY_FIND:
+                yield self.status(shown(card), raised(card), 0, 1)
         if name == "pass_over" or not self.is_legal(name, card):
             yield refused(card), None, 0
 
@@ -143,12 +149,11 @@ class Rows:
             BLOCK_LEN_ERROR if card.block_length != 512 else 0) | (WP_VIOLATION if protected else 0)
 
     def begun(self, card, argument, state, is_single):
-        """CMD17, CMD18, CMD24 and CMD25; the card may decline one, and says why."""
+        """CMD17, CMD18, CMD24 and CMD25."""
         errors = self.transfer_errors(card, argument, state == RCV)
         left = 1 if is_single else card.count or None
         begun = shown(card)._replace(state=state, source=None, place=self.sector_at(argument), left=left, is_single=is_single)
         yield self.status(shown(card) if errors else begun, card, errors)
-        yield self.status(shown(card), raised(card), 0, 1)
 
     def read(self, card, index, argument):
         return self.begun(card, argument, DATA, index == 17)

@@ -13,7 +13,7 @@ use Rattle.mmc_card_sim.specs.FaultyExchanges.{fits_command, fits_poll, fits_rea
 use Rattle.mmc_card_sim.specs.FlippedReplies.{is_flip}
 use Rattle.mmc_card_sim.specs.declared.fault.Fault.{Fault as CardFault}
 use Rattle.mmc_card_sim.specs.declared.fault.Fault.TheVariants.{FailEarly, FailSwitch, FailSwitchLate, FailUnseen, FailWith}
-use Rattle.mmc_card_sim.specs.declared.fault.Fault.TheVariants.{FlipCommand, FlipReply, LoseFailedSwitch, ShowError}
+use Rattle.mmc_card_sim.specs.declared.fault.Fault.TheVariants.{FindError, FlipCommand, FlipReply, LoseFailedSwitch, ShowError}
 use Rattle.mmc_card_sim.specs.declared.spec.TheConstants.{MAX_SECTORS}
 use Rattle.mmc_switch.specs.declared.info.Info.{Info}
 use Rattle.mmc_block.specs.Refusal.{first_refusal}
@@ -88,6 +88,7 @@ can_fall kind LoseFailedSwitch = is_mmc kind
 can_fall kind (FlipCommand flips) = is_flip flips 48
 can_fall kind (FlipReply flips) = is_flip flips 136
 can_fall kind (ShowError bits) = are_of_execution bits
+can_fall kind (FindError bits) = are_of_execution bits
 can_fall kind (FailWith outcome bits) = are_of_execution bits
 can_fall kind (FailEarly outcome bits) = are_of_execution bits
 can_fall kind (FailUnseen outcome bits) = are_of_execution bits
@@ -101,6 +102,7 @@ unfit_words (FailWith outcome bits) = codes "these bits aren't errors of program
 unfit_words (FailEarly outcome bits) = codes "these bits aren't errors of programming"
 unfit_words (FailUnseen outcome bits) = codes "these bits aren't errors of programming"
 unfit_words (ShowError bits) = codes "these bits aren't errors of execution"
+unfit_words (FindError bits) = codes "these bits aren't errors of execution"
 unfit_words fault = codes "an SD card has no CMD6 that writes a byte"
 
 unfoldable pub unfit_line : ℕ → List ℕ → List ℕ

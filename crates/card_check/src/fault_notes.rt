@@ -23,6 +23,7 @@ pub fn can_fall(kind: Kind, fault: Fault) -> bool
         Fault::FlipCommand(flips) => is_flip(flips, 48),
         Fault::FlipReply(flips) => is_flip(flips, 136),
         Fault::ShowError(bits)
+        | Fault::FindError(bits)
         | Fault::FailWith(_, bits)
         | Fault::FailEarly(_, bits)
         | Fault::FailUnseen(_, bits) => is_of_execution(bits),
@@ -41,7 +42,7 @@ fn unfit_words(fault: Fault) -> &'static [u8]
         Fault::FailWith(_, _) | Fault::FailEarly(_, _) | Fault::FailUnseen(_, _) => {
             b"these bits aren't errors of programming"
         }
-        Fault::ShowError(_) => b"these bits aren't errors of execution",
+        Fault::ShowError(_) | Fault::FindError(_) => b"these bits aren't errors of execution",
         _ => b"an SD card has no CMD6 that writes a byte",
     }
 }

@@ -126,7 +126,7 @@ impl Key {
             Key::GoesOn => b"goes-on is yes or no",
             Key::Locked => b"locked is yes or no",
             Key::Fault =>
-                b"fault is an exchange and one of lose-command, flip-command A [B], lose-reply, flip-reply A [B], fail-switch, fail-switch-late, lose-failed-switch, find-protection, left-over crc|illegal, show-error 8 digits, bad-block, no-block, read-error, lose-block, reject, reject-busy, reject-all, lose-status old|new, fail old|new [8 digits], fail-early old|new [8 digits], fail-unseen old|new [8 digits], busy, brownout old|new",
+                b"fault is an exchange and one of lose-command, flip-command A [B], lose-reply, flip-reply A [B], fail-switch, fail-switch-late, lose-failed-switch, find-protection, left-over crc|illegal, show-error 8 digits, find-error 8 digits, bad-block, no-block, read-error, lose-block, reject, reject-busy, reject-all, lose-status old|new, fail old|new [8 digits], fail-early old|new [8 digits], fail-unseen old|new [8 digits], busy, brownout old|new",
             Key::Scr => b"scr is 16 hexadecimal digits",
             Key::Rca => b"rca is 4 hexadecimal digits, or changes",
             Key::Cmd8 => b"cmd8 is yes or no",

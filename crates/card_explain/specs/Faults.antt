@@ -9,7 +9,7 @@ use Rattle.mmc_card_sim.specs.declared.fault.Fault.{Fault}
 use Rattle.mmc_card_sim.specs.declared.fault.Fault.TheVariants.{BadBlock, Brownout, Busy, Fail, FailWith, FlipCommand}
 use Rattle.mmc_card_sim.specs.declared.fault.Fault.TheVariants.{FailSwitch, FailSwitchLate, FlipReply, LeaveOver}
 use Rattle.mmc_card_sim.specs.declared.fault.Fault.TheVariants.{LoseCommand, LoseReply, LoseStatus, NoBlock, ReadError}
-use Rattle.mmc_card_sim.specs.declared.fault.Fault.TheVariants.{FailEarly, FailUnseen, FindProtection, LoseBlock, LoseFailedSwitch}
+use Rattle.mmc_card_sim.specs.declared.fault.Fault.TheVariants.{FailEarly, FailUnseen, FindError, FindProtection, LoseBlock, LoseFailedSwitch}
 use Rattle.mmc_card_sim.specs.declared.fault.Fault.TheVariants.{Reject, RejectAll, RejectBusy, ShowError}
 use Rattle.mmc_card_sim.specs.declared.fault.Flips.{Flips}
 use Rattle.mmc_card_rows.specs.declared.fault.Outcome.{Outcome}
@@ -27,6 +27,7 @@ name_of LoseFailedSwitch = codes "lose-failed-switch"
 name_of FindProtection = codes "find-protection"
 name_of (LeaveOver error) = codes "left-over"
 name_of (ShowError bits) = codes "show-error"
+name_of (FindError bits) = codes "find-error"
 name_of BadBlock = codes "bad-block"
 name_of NoBlock = codes "no-block"
 name_of ReadError = codes "read-error"
@@ -65,6 +66,7 @@ details_text (FlipCommand flips) = flips_text flips
 details_text (FlipReply flips) = flips_text flips
 details_text (LeaveOver error) = error_name error
 details_text (ShowError bits) = codes " " ++ hex_text (to_be_bytes w32 bits)
+details_text (FindError bits) = codes " " ++ hex_text (to_be_bytes w32 bits)
 details_text (LoseStatus outcome) = outcome_name outcome
 details_text (Fail outcome) = outcome_name outcome
 details_text (FailWith outcome bits) = outcome_name outcome ++ (codes " " ++ hex_text (to_be_bytes w32 bits))

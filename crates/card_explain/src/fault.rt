@@ -22,6 +22,7 @@ fn name_of(fault: Fault) -> &'static [u8]
         Fault::FindProtection => b"find-protection",
         Fault::LeaveOver(_) => b"left-over",
         Fault::ShowError(_) => b"show-error",
+        Fault::FindError(_) => b"find-error",
         Fault::BadBlock => b"bad-block",
         Fault::NoBlock => b"no-block",
         Fault::ReadError => b"read-error",
@@ -95,7 +96,7 @@ pub fn put_fault(out: &mut Vec<u8>, fault: Fault) -> Result<(), AllocError>
             let outcome = outcome_name(outcome);
             say(out, &[Piece::Text(outcome)])
         }
-        Fault::ShowError(bits) => {
+        Fault::ShowError(bits) | Fault::FindError(bits) => {
             let bits = bits.to_be_bytes();
             say(out, &[Piece::Text(b" "), Piece::Hex(&bits)])
         }

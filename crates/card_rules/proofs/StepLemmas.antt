@@ -38,8 +38,8 @@ module _ (old new : BusView) (before after : Option ℕ) where
       slow_status choice behind late status count card spells
   command_meets frame reply (fail_switch choice fails switch count card spells) =
       fail_switch choice fails switch count card spells
-  command_meets frame reply (find_error choice finds patient transfers count card spells) =
-      find_error choice finds patient transfers count card spells
+  command_meets frame reply (find_error choice finds patient may count card spells) =
+      find_error choice finds patient may count card spells
   command_meets frame reply (outlive choice bits argument among patient resets count card silent) =
       outlive choice bits argument among patient resets count card silent
   command_meets frame reply (show_errors choice left found among errors some cleared patient count card spells) =

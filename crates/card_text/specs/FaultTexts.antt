@@ -8,7 +8,7 @@ use Rattle.mmc_card_sim.specs.declared.fault.Fault.{Fault}
 use Rattle.mmc_card_sim.specs.declared.fault.Fault.TheVariants.{BadBlock, Brownout, Busy, Fail, FailWith, FlipCommand}
 use Rattle.mmc_card_sim.specs.declared.fault.Fault.TheVariants.{FailSwitch, FailSwitchLate, FlipReply, LeaveOver}
 use Rattle.mmc_card_sim.specs.declared.fault.Fault.TheVariants.{LoseCommand, LoseReply, LoseStatus, NoBlock, ReadError}
-use Rattle.mmc_card_sim.specs.declared.fault.Fault.TheVariants.{FailEarly, FailUnseen, FindProtection, LoseBlock, LoseFailedSwitch}
+use Rattle.mmc_card_sim.specs.declared.fault.Fault.TheVariants.{FailEarly, FailUnseen, FindError, FindProtection, LoseBlock, LoseFailedSwitch}
 use Rattle.mmc_card_sim.specs.declared.fault.Fault.TheVariants.{Reject, RejectAll, RejectBusy, ShowError}
 use Rattle.mmc_card_sim.specs.declared.fault.Flips.{Flips}
 use Rattle.mmc_card_rows.specs.declared.fault.Outcome.{Outcome}
@@ -53,9 +53,9 @@ unfoldable pub command_error_of : List (List ℕ) → Option CommandError
 command_error_of words = option_and_then (λ word. command_error_in word) (lone_word_of words)
 
 -- error bits as a status has them, in 8 digits
-unfoldable pub shown_error_of : List (List ℕ) → Option Fault
-shown_error_of words =
-    option_map (λ bytes. ShowError (from_be_bytes w32 bytes)) (option_and_then (λ word. bytes_of 4 word) (lone_word_of words))
+unfoldable pub error_bits_of : List (List ℕ) → Option ℕ
+error_bits_of words =
+    option_map (λ bytes. from_be_bytes w32 bytes) (option_and_then (λ word. bytes_of 4 word) (lone_word_of words))
 
 -- an outcome alone, or with error bits as a status has them, in 8 digits
 unfoldable pub failure_of : List (List ℕ) → Option Fault
@@ -106,13 +106,14 @@ fault_with_words_of name words =
     if bytes_eq name (codes "flip-command") then option_map (λ flips. FlipCommand flips) (flips_of words)
     else (if bytes_eq name (codes "flip-reply") then option_map (λ flips. FlipReply flips) (flips_of words)
     else (if bytes_eq name (codes "left-over") then option_map (λ error. LeaveOver error) (command_error_of words)
-    else (if bytes_eq name (codes "show-error") then shown_error_of words
+    else (if bytes_eq name (codes "show-error") then option_map (λ bits. ShowError bits) (error_bits_of words)
+    else (if bytes_eq name (codes "find-error") then option_map (λ bits. FindError bits) (error_bits_of words)
     else (if bytes_eq name (codes "lose-status") then option_map (λ outcome. LoseStatus outcome) (outcome_of words)
     else (if bytes_eq name (codes "fail") then failure_of words
     else (if bytes_eq name (codes "fail-early") then option_map (λ fault. early_failure fault) (failure_of words)
     else (if bytes_eq name (codes "fail-unseen") then option_map (λ fault. unseen_failure fault) (failure_of words)
     else (if bytes_eq name (codes "brownout") then option_map (λ outcome. Brownout outcome) (outcome_of words)
-    else None))))))))
+    else None)))))))))
 
 -- the text of a fault, by its fields
 unfoldable pub fault_of : List (List ℕ) → Option Fault

@@ -2,7 +2,7 @@
 ghost use Rattle.std.specs.Prelude.{◌≡◌, option_map};
 ghost use Rattle.card_text.specs.FaultTexts.{command_error_in, command_error_of, failure_of, fault_of};
 ghost use Rattle.card_text.specs.FaultTexts.{fault_with_words_of, flips_of, lone_fault_of, lone_word_of, outcome_in};
-ghost use Rattle.card_text.specs.FaultTexts.{early_failure, further_lone_fault_of, outcome_of, position_of, shown_error_of};
+ghost use Rattle.card_text.specs.FaultTexts.{early_failure, error_bits_of, further_lone_fault_of, outcome_of, position_of};
 ghost use Rattle.card_text.specs.FaultTexts.{unseen_failure};
 ghost use Rattle.card_text.specs.Parts.{left_parts, parts};
 
@@ -96,12 +96,12 @@ fn command_error(words: &[u8]) -> Option<CommandError>
 }
 
 // Error bits as a status has them, in 8 digits.
-#[tactic(auto, unfolding(crate::specs::FaultTexts::shown_error_of))]
-fn shown_error(words: &[u8]) -> Option<Fault>
-    ensures { result ≡ shown_error_of (parts 32 words.now) }
+#[tactic(auto, unfolding(crate::specs::FaultTexts::error_bits_of))]
+fn error_bits(words: &[u8]) -> Option<u32>
+    ensures { result ≡ error_bits_of (parts 32 words.now) }
 {
     let digits = bytes(lone_word(words)?)?;
-    Some(Fault::ShowError(u32::from_be_bytes(digits)))
+    Some(u32::from_be_bytes(digits))
 }
 
 // How programming fails: an outcome, and error bits where they are said.
@@ -203,7 +203,9 @@ fn fault_with_words(name: &[u8], words: &[u8]) -> Option<Fault>
     } else if name == b"left-over".as_slice() {
         Some(Fault::LeaveOver(command_error(words)?))
     } else if name == b"show-error".as_slice() {
-        shown_error(words)
+        Some(Fault::ShowError(error_bits(words)?))
+    } else if name == b"find-error".as_slice() {
+        Some(Fault::FindError(error_bits(words)?))
     } else if name == b"lose-status".as_slice() {
         Some(Fault::LoseStatus(outcome(words)?))
     } else if name == b"fail".as_slice() {

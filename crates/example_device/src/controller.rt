@@ -15,6 +15,13 @@ pub struct Controller {
     card: SimCard,
 }
 
+// Bits 127 to 8 of a register.
+fn without_check(register: &[u8; 16]) -> [u8; 15] {
+    let mut bytes = [0; 15];
+    bytes.copy_from_slice(&register[..15]);
+    bytes
+}
+
 impl Controller {
     /// One with an SD card of four sectors, which fails to program the first block that is written, at the poll after it; and the
     /// response that would say so is lost.
@@ -62,9 +69,7 @@ impl Controller {
             return None;
         };
         let register = read_r2(&frame).ok()?;
-        let mut bytes = [0; 15];
-        bytes.copy_from_slice(&register[..15]);
-        Some(bytes)
+        Some(without_check(&register))
     }
 
     /// Receives a block of the buffer's length.

@@ -372,32 +372,19 @@ lagged choice old new may e = ((both (is_in old.state Tran) old.lags may).1, ap 
 lagging_shown : (choice : Choice) (old new : Card) → new ≡ lagging choice old → HasShown old new
 lagging_shown choice old new e = subst (HasShown old) (sym e) refl
 
--- errors of the programming show at once, or are to show yet
-late_none : (late : Bool) (errors : ℕ) → (if late then 0 else errors) ≡ 0 → (if late then errors else 0) ≡ 0 → errors ≡ 0
-late_none true errors seen left = left
-late_none false errors seen left = seen
+-- Errors of the programming, and that a switch failed, show at once, or are to show yet: what stands for none of either.
+late_none : {X : Type 0} (none : X) (late : Bool) (errors : X) → (if late then none else errors) ≡ none
+    → (if late then errors else none) ≡ none → errors ≡ none
+late_none none true errors seen left = left
+late_none none false errors seen left = seen
 
-late_gets : (late : Bool) (errors : ℕ) → errors ≡ 0 → (if late then errors else 0) ≡ 0
-late_gets true errors none = none
-late_gets false errors none = refl
+late_gets : {X : Type 0} (none : X) (late : Bool) (errors : X) → errors ≡ none → (if late then errors else none) ≡ none
+late_gets none true errors is_none = is_none
+late_gets none false errors is_none = refl
 
-late_seen : (late : Bool) (errors : ℕ) → errors ≡ 0 → (if late then 0 else errors) ≡ 0
-late_seen true errors none = refl
-late_seen false errors none = none
-
--- and so does that a switch failed
-late_unset : (late is_set : Bool) → (if late then false else is_set) ≡ false → (if late then is_set else false) ≡ false
-    → is_set ≡ false
-late_unset true is_set seen left = left
-late_unset false is_set seen left = seen
-
-late_stays : (late is_set : Bool) → is_set ≡ false → (if late then is_set else false) ≡ false
-late_stays true is_set unset = unset
-late_stays false is_set unset = refl
-
-late_seen_unset : (late is_set : Bool) → is_set ≡ false → (if late then false else is_set) ≡ false
-late_seen_unset true is_set unset = refl
-late_seen_unset false is_set unset = unset
+late_seen : {X : Type 0} (none : X) (late : Bool) (errors : X) → errors ≡ none → (if late then none else errors) ≡ none
+late_seen none true errors is_none = refl
+late_seen none false errors is_none = is_none
 
 -- what such a status leaves, which shows errors that are cleared by it
 lags_at_work : (kind : Kind) (choice : Choice) (left found : ℕ) (old new : Card) → (found ≡ 0) ⊎ (new.errors ≡ 0)
@@ -411,13 +398,13 @@ lags_at_work kind choice left found old new cleared may e seen =
     record {
       shown = lagging_shown choice met new e;
       held_none = λ none.
-          let held = late_none choice.tells_late met.errors seen.errors (sym errors ∙ none) in
+          let held = late_none 0 choice.tells_late met.errors seen.errors (sym errors ∙ none) in
           omega (arith, held, le_or_l old.errors found);
       held_no_switch_error = λ judged mmc none.
-          late_unset choice.tells_late old.switch_error (seen.switch_error judged mmc) (sym switch ∙ none);
-      gets_no_switch_error = λ unset. switch ∙ late_stays choice.tells_late old.switch_error unset;
+          late_none false choice.tells_late old.switch_error (seen.switch_error judged mmc) (sym switch ∙ none);
+      gets_no_switch_error = λ unset. switch ∙ late_gets false choice.tells_late old.switch_error unset;
       gets_none = λ none. elim cleared [
-        | inl nothing ↦ errors ∙ late_gets choice.tells_late met.errors
+        | inl nothing ↦ errors ∙ late_gets 0 choice.tells_late met.errors
             (ap (bit_or old.errors) nothing ∙ or_zero_r old.errors ∙ none)
         | inr clear ↦ clear
       ];
@@ -429,8 +416,8 @@ seen_in_order : (kind : Kind) (choice : Choice) (card : Card) → HasNoErrorOfIt
     → HasNoErrorOfItsOwn kind (at_work choice card)
 seen_in_order kind choice card none =
     record {
-      errors = late_seen choice.tells_late card.errors none.errors;
-      switch_error = λ judged mmc. late_seen_unset choice.tells_late card.switch_error (none.switch_error judged mmc);
+      errors = late_seen 0 choice.tells_late card.errors none.errors;
+      switch_error = λ judged mmc. late_seen false choice.tells_late card.switch_error (none.switch_error judged mmc);
     }
 
 -- a status that was heard, by the card that told it: as it is, or as it lags behind
@@ -508,7 +495,7 @@ told_soon {E} kind old new heard r k clean lag unclean told is tells soon order 
           ((lag kind lags.choice told old k lags.told_is).1 order.0 (seen_in_order kind lags.choice old order.1.no_error)))) (
             lagged lags.choice old new lags.may lags.card,
             soon (ap (λ (c : Card). c.lags) lags.card),
-            ap (λ (c : Card). c.errors) lags.card ∙ late_gets lags.choice.tells_late old.errors order.1.no_error.errors,
+            ap (λ (c : Card). c.errors) lags.card ∙ late_gets 0 lags.choice.tells_late old.errors order.1.no_error.errors,
           )
     ]
 

@@ -1,7 +1,7 @@
 -- What a host learns, from the step that its exchange was.
 use Rattle.std.proofs.Common.{◌&&◌, ◌+◌, ◌<◌, ◌∙◌, ◌≡◌, ◌≤◌, Bool, List, ap, arith, bit_or, cond, false, inl, inr, not, refl}
 use Rattle.std.proofs.Common.{subst, sym, true, ℕ}
-use Rattle.std.specs.Prelude.{◌⊎◌, Ok, Option, Result, Some}
+use Rattle.std.specs.Prelude.{◌==◌, ◌⊎◌, Ok, Option, Result, Some}
 use Rattle.std.proofs.lemmas.Nat.{le_or_r}
 use Rattle.std.specs.Int.Bits.{or_zero_r}
 use Rattle.mmc_frame.specs.Frame.{command_in}
@@ -17,6 +17,7 @@ use Rattle.mmc_card.specs.declared.exchange.Want.{Want}
 use Rattle.mmc_card.specs.Wanted.{response_to}
 use Rattle.mmc_frame.specs.declared.kind.Kind.{Kind}
 use Rattle.mmc_bus.specs.declared.host.Unheard.{Unheard}
+use Rattle.mmc_card.proofs.CardAll.{card_showing}
 use Rattle.mmc_card.proofs.Cards.{among_wider, in_state}
 use Rattle.mmc_card.proofs.Conditions.{by_cond}
 use Rattle.mmc_card.proofs.Steps.{after_poll, after_time}
@@ -26,6 +27,7 @@ use Rattle.mmc_card.proofs.NarrowSteps.{poll_keeps, read_keeps}
 use Rattle.mmc_card.proofs.Passing.{GoesOn, accepted_before, accepts_at_rest, accepts_when_free, beside_card, block_adds, block_counts}
 use Rattle.mmc_card.proofs.Passing.{block_stands, card_in_time, counts_in_time, goes_on_in_time, ignores_all, not_sent, run_in_rcv, step_counts}
 use Rattle.mmc_card.proofs.Passing.{step_stands, step_switches, step_widens, still, still_in, unmoved_by_time}
+use Rattle.mmc_bus.proofs.FoundLemmas.{found_none_at_all, has_found}
 use Rattle.mmc_bus.proofs.Readers.{Reads, with_errors}
 use Rattle.mmc_card.proofs.Standing.{poll_stands, read_stands}
 use Rattle.mmc_card.specs.CardAnswer.{CardAnswer, Choice, Silent, refused, showing}
@@ -43,11 +45,11 @@ use Rattle.mmc_card.specs.Faults.{show_errors}
 use Rattle.mmc_card.specs.Faults.{lose_block, lose_status, reject, slow_inquiry, slow_status, spoil, turn_out}
 use Rattle.mmc_bus.specs.Heard.{cause_of, cause_of_command}
 use Rattle.mmc_card.specs.Laws.{CountsAtMost, IsStill, erased_by, is_frame_of_run, maybe_erased}
-use Rattle.mmc_bus.specs.Learned.{Asked, CommandFacts, CommandMet, Faithful, Hears, IsAccepted, Obeyed, PollFacts, ReadFacts, WriteFacts, carried_out}
+use Rattle.mmc_bus.specs.Learned.{Asked, CommandFacts, CommandMet, Faithful, HasFound, Hears, IsAccepted, Obeyed, PollFacts, ReadFacts, WriteFacts, carried_out}
 use Rattle.mmc_bus.specs.Learned.{IsThereAfter, may_fail, meant, polled_to}
 use Rattle.mmc_card.specs.declared.command.Command.{Command as Meaning}
 use Rattle.mmc_card.specs.declared.command.Command.TheVariants.{GoIdleState}
-use Rattle.mmc_card.specs.Rows.{command_of, answered, is_foreign, is_legal, reached, respond}
+use Rattle.mmc_card.specs.Rows.{answered, command_of, found as found_by, hindered, is_foreign, is_legal, reached, respond}
 use Rattle.mmc_card.specs.Sectors.{Sector, Within}
 use Rattle.mmc_card.specs.BusView.{BusView}
 use Rattle.mmc_card.specs.declared.exchange.DataIn.TheVariants as Received
@@ -78,23 +80,27 @@ silence : {X : Type 0} (answers : CardAnswer → X) (card : Card) (heard : X) �
     → heard ≡ answers Silent
 silence answers card heard h = h.2 ∙ ap answers h.1
 
--- the card that carries the command out, with what it shows besides
+-- the card that carries the command out, with what it shows besides, or finds an error
 obeyed_by : {X : Type 0} (answers : CardAnswer → Result X Unheard) (choice : Choice) (left found : ℕ) (old : Card)
     (index argument : ℕ) (heard : Result X Unheard) (new : Card)
-    (foreign legal : Bool) → foreign ≡ is_foreign (meant old index) old argument
-    → legal ≡ is_legal (meant old index) (showing left found old)
+    (foreign legal none : Bool) → foreign ≡ is_foreign (meant old index) old argument
+    → legal ≡ is_legal (meant old index) (showing left found old) → none ≡ (found_by choice (meant old index) == 0)
+    → IsCard (showing left found old)
     → AreAmong left command_error_bits → AreAmong found error_bits → (found ≡ 0) ⊎ (new.errors ≡ 0)
     → ((x : X) → answers Silent ≡ Ok x → ⊥)
-    → new ≡ (cond foreign (showing left found old, Silent) (cond legal (carried_out choice (showing left found old) index argument)
+    → new ≡ (cond foreign (showing left found old, Silent)
+    (cond legal (cond none (carried_out choice (showing left found old) index argument)
+    (hindered (found_by choice (meant old index)) (reached choice (meant old index) (showing left found old)) index))
     (refused (reached choice (meant old index) (showing left found old)), Silent))).0
     → Hears answers old (cond foreign (showing left found old, Silent)
-    (cond legal (carried_out choice (showing left found old) index argument)
+    (cond legal (cond none (carried_out choice (showing left found old) index argument)
+    (hindered (found_by choice (meant old index)) (reached choice (meant old index) (showing left found old)) index))
     (refused (reached choice (meant old index) (showing left found old)), Silent))).1 heard
-    → (x : X) → heard ≡ Ok x → Obeyed answers old index argument heard new
-obeyed_by answers choice left found old index argument heard new true legal f l among errors cleared mute card answer x h =
+    → (x : X) → heard ≡ Ok x → Obeyed answers old index argument heard new ⊎ HasFound answers old index argument heard new
+obeyed_by answers choice left found old index argument heard new true legal none f l n k among errors cleared mute card answer x h =
     absurd (mute x (sym (silence answers old heard answer) ∙ h))
-obeyed_by answers choice left found old index argument heard new false true f l among errors cleared mute card answer x h =
-    record {
+obeyed_by answers choice left found old index argument heard new false true true f l n k among errors cleared mute card answer x h =
+    inl (record {
       choice = choice;
       left = left;
       found = found;
@@ -106,20 +112,24 @@ obeyed_by answers choice left found old index argument heard new false true f l 
       legal = sym (l ∙ legal_showing left found (meant old index) old);
       card = card;
       answer = answer;
-    }
-obeyed_by answers choice left found old index argument heard new false false f l among errors cleared mute card answer x h =
+    })
+obeyed_by answers choice left found old index argument heard new false true false f l n k among errors cleared mute card answer x h =
+    inr (has_found answers choice left found old index argument heard new k (sym f)
+    (sym (l ∙ legal_showing left found (meant old index) old)) (sym n) card answer)
+obeyed_by answers choice left found old index argument heard new false false none f l n k among errors cleared mute card answer x h =
     absurd (mute x (sym (silence answers old heard answer) ∙ h))
 
 obeyed_showing : {X : Type 0} (answers : CardAnswer → Result X Unheard) (choice : Choice) (left found : ℕ) (old : Card)
-    (index argument : ℕ) (heard : Result X Unheard) (new : Card) → AreAmong left command_error_bits → AreAmong found error_bits
+    (index argument : ℕ) (heard : Result X Unheard) (new : Card) → IsCard old → AreAmong left command_error_bits
+    → AreAmong found error_bits
     → (found ≡ 0) ⊎ (new.errors ≡ 0)
     → ((x : X) → answers Silent ≡ Ok x → ⊥) → new ≡ (respond choice (showing left found old) index argument).0
     → Hears answers old (respond choice (showing left found old) index argument).1 heard
-    → (x : X) → heard ≡ Ok x → Obeyed answers old index argument heard new
-obeyed_showing answers choice left found old index argument heard new among errors cleared mute card answer x h =
+    → (x : X) → heard ≡ Ok x → Obeyed answers old index argument heard new ⊎ HasFound answers old index argument heard new
+obeyed_showing answers choice left found old index argument heard new k among errors cleared mute card answer x h =
     obeyed_by answers choice left found old index argument heard new (is_foreign (meant old index) old argument)
-    (is_legal (meant old index) (showing left found old))
-    refl refl among errors cleared mute card answer x h
+    (is_legal (meant old index) (showing left found old)) (found_by choice (meant old index) == 0)
+    refl refl refl (card_showing left found old among errors k) among errors cleared mute card answer x h
 
 -- where nothing more is to be shown
 showing_none : (card : Card) → showing 0 0 card ≡ card
@@ -128,13 +138,13 @@ showing_none card =
     ∙ ap (λ (n : ℕ). record card { errors = n }) (or_zero_r card.errors)
 
 obeyed : {X : Type 0} (answers : CardAnswer → Result X Unheard) (choice : Choice) (old : Card) (index argument : ℕ)
-    (heard : Result X Unheard) (new : Card)
+    (heard : Result X Unheard) (new : Card) → IsCard old
     → ((x : X) → answers Silent ≡ Ok x → ⊥) → new ≡ (respond choice old index argument).0
     → Hears answers old (respond choice old index argument).1 heard
-    → (x : X) → heard ≡ Ok x → Obeyed answers old index argument heard new
-obeyed answers choice old index argument heard new mute card answer x h =
+    → (x : X) → heard ≡ Ok x → Obeyed answers old index argument heard new ⊎ HasFound answers old index argument heard new
+obeyed answers choice old index argument heard new k mute card answer x h =
     let none = sym (showing_none old) in
-    obeyed_showing answers choice 0 0 old index argument heard new refl refl (inl refl) mute
+    obeyed_showing answers choice 0 0 old index argument heard new k refl refl (inl refl) mute
     (card ∙ ap (λ (c : Card). (respond choice c index argument).0) none)
     (subst (λ (c : Card). Hears answers old (respond choice c index argument).1 heard) none answer) x h
 
@@ -146,7 +156,8 @@ faithfully : {X : Type 0} (answers : CardAnswer → X) (choice : Choice) (old : 
 faithfully answers choice old index argument heard new faultless card answer =
     let obeys : (own : is_foreign (meant old index) old argument ≡ false)
     (legal : is_legal (meant old index) old ≡ true)
-    → respond choice old index argument ≡ carried_out choice old index argument = λ own legal. rw (own, legal) refl in
+    → respond choice old index argument ≡ carried_out choice old index argument =
+    λ own legal. rw (own, legal, found_none_at_all choice (meant old index) faultless.2) refl in
     let passes : (foreign : is_foreign (meant old index) old argument ≡ true) → respond choice old index argument
     ≡ (old, Silent) = λ foreign. rw foreign refl in
     let refuses : (own : is_foreign (meant old index) old argument ≡ false)
@@ -201,54 +212,55 @@ command_sound : {X : Type 0} (Fits : CardAnswer → Type 0) (hears : Reply → R
     (old : BusView) (frame : List ℕ) (index argument : ℕ) (reply : Reply) (new : BusView)
     → Reads (index, argument) Fits hears answers → ((left errors : ℕ) (choice : Choice) → Fits (respond choice (with_errors left errors old.card) index argument).1)
     → command_in frame ≡ Some (index, argument) → MeetsCommand old frame reply new
-    → (x : X) → hears reply ≡ Ok x → Obeyed answers old.card index argument (hears reply) new.card
+    → IsCard old.card → (x : X) → hears reply ≡ Ok x
+    → Obeyed answers old.card index argument (hears reply) new.card ⊎ HasFound answers old.card index argument (hears reply) new.card
 command_sound Fits hears answers old frame index argument reply new reads fits command
-    (faithful choice patient count card spells) x h =
-    obeyed answers choice old.card index argument (hears reply) new.card reads.mute
+    (faithful choice patient count card spells) k x h =
+    obeyed answers choice old.card index argument (hears reply) new.card k reads.mute
     (card_at choice old.card new.card frame index argument command card)
     (heard_at Fits hears answers choice old.card old.card frame index argument reply reads (fits _ _ choice) command spells) x h
 command_sound Fits hears answers old frame index argument reply new reads fits command
-    (lose_command count card silent) x h =
+    (lose_command count card silent) k x h =
     absurd (reads.silent x (ap hears (sym silent) ∙ h))
 command_sound Fits hears answers old frame index argument reply new reads fits command
-    (flip_command keeps_count count card silent) x h =
+    (flip_command keeps_count count card silent) k x h =
     absurd (reads.silent x (ap hears (sym silent) ∙ h))
 command_sound Fits hears answers old frame index argument reply new reads fits command
-    (lose_reply choice patient count card answers_it refused) x h =
+    (lose_reply choice patient count card answers_it refused) k x h =
     absurd (unheard_at Fits hears answers choice old.card frame index argument reply reads (fits _ _ choice) command refused x h)
 command_sound Fits hears answers old frame index argument reply new reads fits command
-    (slow_inquiry choice slow late inquiry count card spells) x h =
-    obeyed answers choice old.card index argument (hears reply) new.card reads.mute
+    (slow_inquiry choice slow late inquiry count card spells) k x h =
+    obeyed answers choice old.card index argument (hears reply) new.card k reads.mute
     (card_at choice old.card new.card frame index argument command card)
     (heard_at Fits hears answers choice old.card old.card frame index argument reply reads (fits _ _ choice) command spells) x h
 command_sound Fits hears answers old frame index argument reply new reads fits command
-    (slow_status choice behind late status count card spells) x h =
-    obeyed answers choice old.card index argument (hears reply) new.card reads.mute
+    (slow_status choice behind late status count card spells) k x h =
+    obeyed answers choice old.card index argument (hears reply) new.card k reads.mute
     (card_at choice old.card new.card frame index argument command card)
     (heard_at Fits hears answers choice old.card old.card frame index argument reply reads (fits _ _ choice) command spells) x h
 command_sound Fits hears answers old frame index argument reply new reads fits command
-    (fail_switch choice fails switch count card spells) x h =
-    obeyed answers choice old.card index argument (hears reply) new.card reads.mute
+    (fail_switch choice fails switch count card spells) k x h =
+    obeyed answers choice old.card index argument (hears reply) new.card k reads.mute
     (card_at choice old.card new.card frame index argument command card)
     (heard_at Fits hears answers choice old.card old.card frame index argument reply reads (fits _ _ choice) command spells) x h
 command_sound Fits hears answers old frame index argument reply new reads fits command
-    (find_error choice finds patient transfers count card spells) x h =
-    obeyed answers choice old.card index argument (hears reply) new.card reads.mute
+    (find_error choice finds patient may count card spells) k x h =
+    obeyed answers choice old.card index argument (hears reply) new.card k reads.mute
     (card_at choice old.card new.card frame index argument command card)
     (heard_at Fits hears answers choice old.card old.card frame index argument reply reads (fits _ _ choice) command spells) x h
 command_sound Fits hears answers old frame index argument reply new reads fits command
-    (outlive choice bits resets among patient is_reset count card silent) x h =
+    (outlive choice bits resets among patient is_reset count card silent) k x h =
     absurd (reads.silent x (ap hears (sym silent) ∙ h))
 command_sound Fits hears answers old frame index argument reply new reads fits command
-    (show_errors choice left found among errors some cleared patient count card spells) x h =
-    obeyed_showing answers choice left found old.card index argument (hears reply) new.card among
+    (show_errors choice left found among errors some cleared patient count card spells) k x h =
+    obeyed_showing answers choice left found old.card index argument (hears reply) new.card k among
     (among_wider found execution_error_bits error_bits errors refl)
     cleared reads.mute
     (card_at choice (showing left found old.card) new.card frame index argument command card)
     (heard_at Fits hears answers choice old.card (showing left found old.card) frame index argument reply reads (fits _ _ choice)
     command spells) x h
 command_sound Fits hears answers old frame index argument reply new reads fits command
-    (brownout choice lands keeps_length after patient count card refused) x h =
+    (brownout choice lands keeps_length after patient count card refused) k x h =
     absurd (unheard_at Fits hears answers choice old.card frame index argument reply reads (fits _ _ choice) command refused x h)
 
 command_fine : {X : Type 0} (Fits : CardAnswer → Type 0) (hears : Reply → Result X Unheard)
@@ -275,7 +287,7 @@ command_fine Fits hears answers old frame index argument reply new reads fits co
 command_fine Fits hears answers old frame index argument reply new reads fits command
     (fail_switch choice fails switch count card spells) same = fell old new count same
 command_fine Fits hears answers old frame index argument reply new reads fits command
-    (find_error choice finds patient transfers count card spells) same = fell old new count same
+    (find_error choice finds patient may count card spells) same = fell old new count same
 command_fine Fits hears answers old frame index argument reply new reads fits command
     (outlive choice bits resets among patient is_reset count card silent) same = fell old new count same
 command_fine Fits hears answers old frame index argument reply new reads fits command
@@ -301,7 +313,7 @@ command_facts Fits hears answers old frame index argument reply new reads fits c
     let is = card_in_time old met step.passes k in
     let facts : CommandFacts answers met index argument (hears reply) new =
     record {
-      sound = command_sound (Fits met) hears answers met frame index argument reply new (reads met) (fits met is) command step.meets;
+      sound = command_sound (Fits met) hears answers met frame index argument reply new (reads met) (fits met is) command step.meets is;
       fine = command_fine (Fits met) hears answers met frame index argument reply new (reads met) (fits met is) command step.meets;
     } in
     record {

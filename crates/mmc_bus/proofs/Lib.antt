@@ -1,6 +1,7 @@
 pub mod ClosingLemmas
 pub mod CommandLemmas
 pub mod ExchangeLines
+pub mod FoundLemmas
 pub mod Hear
 pub mod InquiryLemmas
 pub mod LendingLemmas

@@ -30,12 +30,12 @@ use Rattle.mmc_card.specs.declared.command.Command.TheVariants.{GoIdleState, Rea
 use Rattle.mmc_card.specs.declared.command.Command.TheVariants.{SendCsd, SendIfCond, SendOpCond, SendStatus, SetBlocklen}
 use Rattle.mmc_card.specs.declared.command.Command.TheVariants.{Switch, Unknown, WriteBlock, WriteMultipleBlock}
 use Rattle.mmc_card.specs.Judged.{IsSaid}
-use Rattle.mmc_card.specs.Rows.{command_of, is_foreign, is_legal, leaves_erase, reached, responded, row}
+use Rattle.mmc_card.specs.Rows.{command_of, found, hindered, is_foreign, is_legal, leaves_erase, obeyed, reached, responded, row}
 use Rattle.mmc_card.specs.RowsErase.{erase_held, erases, erasing, forgotten, hold_first, hold_last, holds_address, is_no_range}
 use Rattle.mmc_card.specs.RowsErase.{is_trim}
 use Rattle.mmc_card.specs.RowsIdentify.{at_work, inquired, is_served, lagging, may_lag}
 use Rattle.mmc_card.specs.RowsSwitch.{switch_row, switched}
-use Rattle.mmc_card.specs.RowsTransfer.{stopped, errors_found, transferred}
+use Rattle.mmc_card.specs.RowsTransfer.{stopped, transfer_errors, transferred}
 use Rattle.mmc_frame.specs.declared.card_state.State.TheVariants.{Tran}
 
 -- The kinds of answer.
@@ -115,13 +115,13 @@ row_answer choice SetBlocklen c index argument r =
     answer_cond SetBlocklen (argument == 512) (record (shown c) { block_length = 512 }, Checked 16 (status false c))
     (shown c, Checked 16 (status false (raised block_len_error c))) refl refl
 row_answer choice ReadSingleBlock c index argument r = transferred_answer ReadSingleBlock 17
-    (errors_found false choice c argument) c _ refl
+    (transfer_errors false c argument) c _ refl
 row_answer choice ReadMultipleBlock c index argument r = transferred_answer ReadMultipleBlock 18
-    (errors_found false choice c argument) c _ refl
+    (transfer_errors false c argument) c _ refl
 row_answer choice WriteBlock c index argument r = transferred_answer WriteBlock 24
-    (errors_found true choice c argument) c _ refl
+    (transfer_errors true c argument) c _ refl
 row_answer choice WriteMultipleBlock c index argument r = transferred_answer WriteMultipleBlock 25
-    (errors_found true choice c argument) c _ refl
+    (transfer_errors true c argument) c _ refl
 row_answer choice StopTransmission c index argument r =
     answer_cond StopTransmission (is_in c.state Tran && not choice.answers_stop) (refused c, Silent)
     (stopped choice.stays_busy c, Checked 12 (status false c)) tt refl
@@ -143,15 +143,34 @@ registers_reached choice command c r =
     let Has : Card → Type 0 = λ card. HasRegisters card.made in
     by_cond Has (leaves_erase command) (λ _. r) (λ _. by_cond Has (holds_address c.erase) (λ _. by_cond Has choice.drops_quietly (λ _. r) (λ _. r)) (λ _. r))
 
+-- an inquiry finds no error
+asks_or_finds : (choice : Choice) (command : Command) → asks_for_ocr command ≡ true → (found choice command == 0) ≡ true
+asks_or_finds choice SendOpCond asks = refl
+asks_or_finds choice SdSendOpCond asks = refl
+asks_or_finds choice _ asks = cc
+
+r1_unless_inquiry : (asks none : Bool) (command : Command) (index bits : ℕ) (c : Card) (x : Card × CardAnswer)
+    → asks ≡ asks_for_ocr command → (asks ≡ true → none ≡ true) → IsAnswerTo command x.1
+    → IsAnswerTo command (cond {A = Card × CardAnswer} none x (hindered bits c index)).1
+r1_unless_inquiry true none command index bits c x asks inquires fits = rw (inquires refl) fits
+r1_unless_inquiry false true command index bits c x asks inquires fits = fits
+r1_unless_inquiry false false command index bits c x asks inquires fits = sym asks
+
+obeyed_answer : (choice : Choice) (command : Command) (c : Card) (index argument : ℕ) → HasRegisters c.made
+    → IsAnswerTo command (obeyed choice command c index argument).1
+obeyed_answer choice command c index argument r =
+    r1_unless_inquiry (asks_for_ocr command) (found choice command == 0) command index (found choice command) c
+    (row choice command c index argument) refl (asks_or_finds choice command) (row_answer choice command c index argument r)
+
 pub responded_answer : (choice : Choice) (command : Command) (c : Card) (index argument : ℕ) → HasRegisters c.made
     → IsAnswerTo command (responded choice command c index argument).1
 responded_answer choice command c index argument r =
     answer_cond command (is_foreign command c argument) (c, Silent)
-    (cond (is_legal command c) (row choice command (reached choice command c) index argument)
+    (cond (is_legal command c) (obeyed choice command (reached choice command c) index argument)
     (refused (reached choice command c), Silent)) tt
-    (answer_cond command (is_legal command c) (row choice command (reached choice command c) index argument)
+    (answer_cond command (is_legal command c) (obeyed choice command (reached choice command c) index argument)
     (refused (reached choice command c), Silent)
-    (row_answer choice command (reached choice command c) index argument (registers_reached choice command c r)) tt)
+    (obeyed_answer choice command (reached choice command c) index argument (registers_reached choice command c r)) tt)
 
 -- no other index than those of the inquiries means one
 named_so : (kind : Kind) (app : Bool) (index : ℕ) → index < 64

@@ -2,6 +2,7 @@
 -- or not, and what holds where no fault fell.
 use Rattle.std.specs.Prelude.{◌&&◌, ◌+◌, ◌<◌, ◌||◌, ◌≡◌, ◌≤◌, ◌⊎◌, Bool, List, Ok, Result, Some, false, not, true, ℕ}
 use Rattle.mmc_frame.specs.Frame.{command_in}
+use Rattle.mmc_frame.specs.Status.{error_bits as word_errors, own_status}
 use Rattle.mmc_frame.specs.declared.card_state.State.TheVariants.{Prg, Rcv}
 use Rattle.mmc_frame.specs.declared.kind.Kind.{Kind}
 use Rattle.mmc_bus.specs.declared.host.Unheard.{Unheard}
@@ -10,7 +11,7 @@ use Rattle.mmc_card.specs.declared.exchange.DataIn.{DataIn}
 use Rattle.mmc_card.specs.declared.exchange.DataOut.{DataOut}
 use Rattle.mmc_card.specs.declared.exchange.Reply.{Reply}
 use Rattle.mmc_card.specs.declared.exchange.Want.{Want}
-use Rattle.mmc_card.specs.CardAnswer.{CardAnswer, Choice, Silent, refused, showing}
+use Rattle.mmc_card.specs.CardAnswer.{CardAnswer, Checked, Choice, Silent, refused, showing, shown}
 use Rattle.mmc_card.specs.Blocks.{accepted, can_send, can_accept, next_block, next_written, rested, sent, waited}
 use Rattle.mmc_card.specs.Card.{AreAmong, Card, IsCard, holds, is_in, is_selected, patience}
 use Rattle.mmc_card.specs.ErrorBits.{command_error_bits, error_bits}
@@ -21,7 +22,7 @@ use Rattle.mmc_card.specs.Judged.{IsSaid}
 use Rattle.mmc_card.specs.Laws.{AfterSomeTime, Carried, IsStill, StandsIn, StillStands, SwitchesTo, WithinOrAccepted, erased_by}
 use Rattle.mmc_card.specs.Laws.{is_frame_of_run, maybe_erased}
 use Rattle.mmc_card.specs.declared.command.Command.{Command}
-use Rattle.mmc_card.specs.Rows.{command_of, is_foreign, is_legal, reached, row}
+use Rattle.mmc_card.specs.Rows.{command_of, is_foreign, is_legal, may_find, reached, row}
 use Rattle.mmc_card.specs.Sectors.{Sector, Within}
 use Rattle.mmc_card.specs.BusView.{BusView}
 use Rattle.mmc_card.specs.Wanted.{response_to}
@@ -69,6 +70,17 @@ pub record Obeyed {X : Type 0} (answers : CardAnswer → X) (old : Card) (index 
   pub speaks : (carried_out choice (showing left found old) index argument).1 ≡ Silent → ⊥
   pub answer : Hears answers old (carried_out choice (showing left found old) index argument).1 heard
 
+-- The card has found an error, which its response shows: it hasn't carried the command out, and nothing else came of it.
+pub record HasFound {X : Type 0} (answers : CardAnswer → X) (old : Card) (index argument : ℕ) (heard : X)
+    (new : Card) : Type 0 where
+  pub own : is_foreign (meant old index) old argument ≡ false
+  pub legal : is_legal (meant old index) old ≡ true
+  pub may : may_find (meant old index) ≡ true
+  pub told : ℕ
+  pub heard_is : heard ≡ answers (Checked index told)
+  pub shows : (kind : Kind) → word_errors kind (own_status told) ≡ 0 → ⊥
+  pub card : (choice : Choice) × (new ≡ shown (reached choice (meant old index) old))
+
 -- The card did as the table says, no slower than it may, and all of its answer came.
 pub record Faithful {X : Type 0} (answers : CardAnswer → X) (old : Card) (index argument : ℕ) (heard : X)
     (new : Card) : Type 0 where
@@ -86,6 +98,7 @@ pub record CommandFacts {X : Type 0} (answers : CardAnswer → Result X Unheard)
     (heard : Result X Unheard) (new : BusView) : Type 0 where
   -- a sound answer comes from the card, fault or not
   pub sound : (x : X) → heard ≡ Ok x → Obeyed answers old.card index argument heard new.card
+      ⊎ HasFound answers old.card index argument heard new.card
   pub fine : NoFault old new → Faithful answers old.card index argument heard new.card
 
 -- Time passed, and then the command met the card.

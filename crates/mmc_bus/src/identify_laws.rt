@@ -10,7 +10,7 @@ ghost use Rattle.mmc_bus.specs.declared.host.Unheard.{Unheard};
 ghost use Rattle.mmc_card.specs.CardAnswer.{busied, done, refused, reset, shown};
 ghost use Rattle.mmc_card.specs.Judged.{Shows};
 ghost use Rattle.mmc_card.specs.Card.{IsCard, NoAddress, is_identified};
-ghost use Rattle.mmc_bus.specs.CommandLaws.{AsksStatus, Does, DoesOne, Inquires, IsUnheard, Names, Responded};
+ghost use Rattle.mmc_bus.specs.CommandLaws.{AsksStatus, Does, Inquires, IsUnheard, Names, Responded, ShowsNoError, Whatever};
 ghost use Rattle.mmc_card.specs.Faults.{NoFault};
 ghost use Rattle.mmc_bus.specs.Heard.{nothing_of, ocr_of, register_of};
 ghost use Rattle.mmc_bus.specs.Learned.{CommandFacts};
@@ -42,7 +42,7 @@ pub fn cmd1_asks_an_emmc_device_whether_it_is_ready()
 pub fn cmd2_tells_the_cid()
     ensures { (old new : BusView) (argument : ℕ) (heard : Result (List ℕ) Unheard)
         → CommandFacts register_of old Index.ALL_SEND_CID argument heard new → IsCard old.card
-        → Does (old.card.state ≡ Ready) (λ card cid. cid ≡ card.made.cid) (record (done old.card) { state = Ident }) old heard new }
+        → Does Whatever (old.card.state ≡ Ready) (λ card cid. cid ≡ card.made.cid) (record (done old.card) { state = Ident }) old heard new }
 {
     laws::register_comes_back();
 }
@@ -53,7 +53,7 @@ pub fn cmd3_publishes_the_rca()
     ensures does { (old new : BusView) (argument : ℕ) (heard : Result ℕ Unheard)
         → Responded Index.SEND_RELATIVE_ADDR old argument heard new → IsCard old.card
         → old.card.made.kind ≡ Sd
-        → Does ((old.card.state ≡ Ident) ⊎ (old.card.state ≡ Stby))
+        → Does Whatever ((old.card.state ≡ Ident) ⊎ (old.card.state ≡ Stby))
         (λ card told. field 31 16 told ≡ new.card.rca)
         (record (shown old.card) { state = Stby; rca = new.card.rca })
         old heard new }
@@ -68,7 +68,7 @@ pub fn cmd3_gives_the_rca()
     ensures { (old new : BusView) (argument : ℕ) (heard : Result ℕ Unheard)
         → Responded Index.SEND_RELATIVE_ADDR old argument heard new → IsCard old.card
         → old.card.made.kind ≡ Mmc
-        → Does (old.card.state ≡ Ident)
+        → Does ShowsNoError (old.card.state ≡ Ident)
         Shows
         (record (shown old.card) { state = Stby; rca = field 31 16 argument })
         old heard new }
@@ -78,7 +78,7 @@ pub fn cmd3_gives_the_rca()
 pub fn cmd7_selects_the_card()
     ensures { (old new : BusView) (argument : ℕ) (heard : Result ℕ Unheard)
         → Responded Index.SELECT_CARD old argument heard new → IsCard old.card
-        → Does ((old.card.state ≡ Stby) × Names argument old.card)
+        → Does Whatever ((old.card.state ≡ Stby) × Names argument old.card)
         Shows (record (busied (shown old.card)) { state = Tran; lags = true }) old heard new }
 {}
 
@@ -89,7 +89,7 @@ pub fn cmd8_is_repeated_by_a_card_that_knows_it()
     ensures does { (old new : BusView) (argument : ℕ) (heard : Result ℕ Unheard)
         → Responded Index.SEND_IF_COND old argument heard new → IsCard old.card
         → old.card.made.kind ≡ Sd → field 11 8 argument ≡ 1
-        → Does ((old.card.state ≡ Idle) × (old.card.made.answers_cmd8 ≡ true))
+        → Does Whatever ((old.card.state ≡ Idle) × (old.card.made.answers_cmd8 ≡ true))
         (λ card told. field 11 0 told ≡ field 11 0 argument) (record (done old.card) { accepted_cmd8 = true }) old heard new }
     ensures unknown { (old new : BusView) (argument : ℕ) (heard : Result ℕ Unheard)
         → Responded Index.SEND_IF_COND old argument heard new → IsCard old.card
@@ -104,7 +104,7 @@ pub fn cmd8_is_repeated_by_a_card_that_knows_it()
 pub fn cmd9_tells_the_csd()
     ensures { (old new : BusView) (argument : ℕ) (heard : Result (List ℕ) Unheard)
         → CommandFacts register_of old Index.SEND_CSD argument heard new → IsCard old.card
-        → Does ((old.card.state ≡ Stby) × Names argument old.card) (λ card csd. csd ≡ card.made.csd) (done old.card) old heard new }
+        → Does Whatever ((old.card.state ≡ Stby) × Names argument old.card) (λ card csd. csd ≡ card.made.csd) (done old.card) old heard new }
 {
     laws::register_comes_back();
 }
@@ -132,7 +132,7 @@ pub fn acmd41_asks_an_sd_card_whether_it_is_ready()
 pub fn cmd55_announces_an_application_command()
     ensures idle { (old new : BusView) (argument : ℕ) (heard : Result ℕ Unheard)
         → Responded Index.APP_CMD old argument heard new → IsCard old.card
-        → Does ((old.card.made.kind ≡ Sd) × ((old.card.state ≡ Idle) ⊎ (is_identified old.card.state ≡ true))
+        → Does ShowsNoError ((old.card.made.kind ≡ Sd) × ((old.card.state ≡ Idle) ⊎ (is_identified old.card.state ≡ true))
         × Names argument old.card)
         ShowsDropped
         (record (shown (forgotten old.card)) { app = true })

@@ -7,7 +7,7 @@ ghost use Rattle.mmc_frame.specs.declared.commands.TheConstants as Index;
 ghost use Rattle.mmc_bus.specs.declared.host.Unheard.{Unheard};
 ghost use Rattle.mmc_card.specs.CardAnswer.{shown};
 ghost use Rattle.mmc_card.specs.Card.{Card, NoAddress};
-ghost use Rattle.mmc_bus.specs.CommandLaws.{Does, IsSwitchSource, Responded, ShowsDropped, Switches, bytes_sent};
+ghost use Rattle.mmc_bus.specs.CommandLaws.{Does, IsSwitchSource, Responded, ShowsDropped, ShowsNoError, Switches, bytes_sent};
 ghost use Rattle.mmc_card.specs.Laws.{timing_once_sent};
 ghost use Rattle.mmc_card.specs.Made.{has_switch_function};
 ghost use Rattle.mmc_card.specs.RowsErase.{forgotten};
@@ -28,14 +28,14 @@ pub fn cmd6_sends_the_switch_status()
     ensures does { (old new : BusView) (argument : ℕ) (heard : Result ℕ Unheard)
         → Responded Index.SWITCH_FUNC old argument heard new
         → old.card.made.kind ≡ Sd → old.card.app ≡ false
-        → Does ((old.card.state ≡ Tran) × (has_switch_function old.card.made ≡ true))
+        → Does ShowsNoError ((old.card.state ≡ Tran) × (has_switch_function old.card.made ≡ true))
         ShowsDropped
         (sending (bytes_sent new.card.source) (timing_once_sent new.card.source old.card.timing) (forgotten old.card))
         old heard new }
     ensures sends { (old new : BusView) (argument told : ℕ) (heard : Result ℕ Unheard)
         → Responded Index.SWITCH_FUNC old argument heard new
         → old.card.made.kind ≡ Sd → old.card.app ≡ false → heard ≡ Ok told
-        → IsSwitchSource old.card argument new.card.source }
+        → ShowsNoError told → IsSwitchSource old.card argument new.card.source }
 {}
 
 /// ACMD6, SET_BUS_WIDTH: a card in tran uses one line or four from then on, as the argument says.
@@ -43,7 +43,7 @@ pub fn acmd6_sets_the_width()
     ensures { (old new : BusView) (argument : ℕ) (heard : Result ℕ Unheard)
         → Responded Index.SET_BUS_WIDTH old argument heard new
         → old.card.made.kind ≡ Sd → old.card.app ≡ true
-        → Does (old.card.state ≡ Tran)
+        → Does ShowsNoError (old.card.state ≡ Tran)
         ShowsDropped
         (record (shown (forgotten old.card)) { width = width_by (field 1 0 argument) old.card.width })
         old heard new }
@@ -54,11 +54,12 @@ pub fn cmd8_sends_the_ext_csd()
     ensures does { (old new : BusView) (argument : ℕ) (heard : Result ℕ Unheard)
         → Responded Index.SEND_IF_COND old argument heard new
         → old.card.made.kind ≡ Mmc
-        → Does (old.card.state ≡ Tran)
+        → Does ShowsNoError (old.card.state ≡ Tran)
         ShowsDropped
         (sending (bytes_sent new.card.source) old.card.timing (forgotten old.card))
         old heard new }
     ensures sends { (old new : BusView) (argument told : ℕ) (heard : Result ℕ Unheard)
         → Responded Index.SEND_IF_COND old argument heard new
-        → old.card.made.kind ≡ Mmc → heard ≡ Ok told → IsExtCsdOf old.card (bytes_sent new.card.source) }
+        → old.card.made.kind ≡ Mmc → heard ≡ Ok told → ShowsNoError told
+        → IsExtCsdOf old.card (bytes_sent new.card.source) }
 {}

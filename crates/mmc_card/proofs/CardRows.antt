@@ -37,7 +37,7 @@ use Rattle.mmc_card.specs.RowsErase.{erase_held, erases, erasing, forgotten, hol
 use Rattle.mmc_card.specs.RowsErase.{is_no_range, is_trim}
 use Rattle.mmc_card.specs.RowsIdentify.{inquired, is_served, may_lag}
 use Rattle.mmc_card.specs.RowsSwitch.{ext_csd_now, is_read, reread, switch_row, switch_source}
-use Rattle.mmc_card.specs.RowsTransfer.{begun, preset, sending_from, stopped, transfer_errors, transferred, errors_found}
+use Rattle.mmc_card.specs.RowsTransfer.{begun, preset, sending_from, stopped, transfer_errors, transferred}
 use Rattle.mmc_card.specs.Sectors.{Sector}
 use Rattle.mmc_card.specs.BusView.{BusView}
 
@@ -182,17 +182,17 @@ card_row choice SetBlocklen c index argument l k =
     refl refl refl (λ h. h) (λ h. refl) (λ h. h))
     (λ _. card_shown c k)
 card_row choice ReadSingleBlock c index argument l k =
-    card_transferred 17 (errors_found false choice c argument) c _ k (card_begun Data true (Some 1) c argument refl k)
+    card_transferred 17 (transfer_errors false c argument) c _ k (card_begun Data true (Some 1) c argument refl k)
 card_row choice ReadMultipleBlock c index argument l k =
-    card_transferred 18 (errors_found false choice c argument) c _ k (card_begun Data false (preset c) c argument refl k)
+    card_transferred 18 (transfer_errors false c argument) c _ k (card_begun Data false (preset c) c argument refl k)
 card_row choice SetBlockCount c index argument l k =
     card_in_tran c _
     (in_state c.state Tran (both (is_in c.state Tran) (has_cmd23 c.made) l).0) k
     (like_shown c _ refl refl refl refl) refl refl refl
 card_row choice WriteBlock c index argument l k =
-    card_transferred 24 (errors_found true choice c argument) c _ k (card_begun Rcv true (Some 1) c argument refl k)
+    card_transferred 24 (transfer_errors true c argument) c _ k (card_begun Rcv true (Some 1) c argument refl k)
 card_row choice WriteMultipleBlock c index argument l k =
-    card_transferred 25 (errors_found true choice c argument) c _ k (card_begun Rcv false (preset c) c argument refl k)
+    card_transferred 25 (transfer_errors true c argument) c _ k (card_begun Rcv false (preset c) c argument refl k)
 card_row choice EraseStart c index argument l k = card_first index c argument c.erase (in_state c.state Tran l) k
 card_row choice EraseEnd c index argument l k = card_last index c argument c.erase (in_state c.state Tran l) k
 card_row choice Erase c index argument l k = card_erase c argument c.erase k
@@ -229,7 +229,7 @@ card_responded choice command c index argument k =
     let now = card_reached choice command c k in
     after_response IsBasic choice command c index argument k
     (λ l. card_row choice command (reached choice command c) index argument (legal_reached choice command c ∙ l) now)
-    (card_refused (reached choice command c) now)
+    (card_shown (reached choice command c) now) (card_refused (reached choice command c) now)
 
 pub card_answered : (choice : Choice) (c : Card) (sent : Option (ℕ × ℕ)) → IsBasic c
     → IsBasic (answered choice c sent).0

@@ -25,7 +25,7 @@ command_counts old frame reply new (lose_reply choice patient count card answers
 command_counts old frame reply new (slow_inquiry choice slow late inquiry count card spells) = one old new count
 command_counts old frame reply new (slow_status choice behind late status count card spells) = one old new count
 command_counts old frame reply new (fail_switch choice fails switch count card spells) = one old new count
-command_counts old frame reply new (find_error choice finds patient transfers count card spells) = one old new count
+command_counts old frame reply new (find_error choice finds patient may count card spells) = one old new count
 command_counts old frame reply new (outlive choice bits argument among patient resets count card silent) = one old new count
 command_counts old frame reply new (show_errors choice left found among errors some cleared patient count card spells) = one old new count
 command_counts old frame reply new (brownout choice lands keeps_length after patient count card silent) = one old new count

@@ -278,6 +278,19 @@ told_errors kind told card k shows =
     (λ none. law.0 (sym same ∙ none), λ of_kind none. same ∙ law.1 of_kind none)))
     (fewer told) (sd_none card)
 
+-- and of what an R1 of any command says
+pub told_none : (kind : Kind) (told : ℕ) (card : Card) → IsCard card → Shows card told → error_bits kind (own_status told) ≡ 0
+    → card.errors ≡ 0
+told_none kind told card k shows none =
+    let made = card.made.kind in
+    let law : Tells kind card (error_bits kind (own_status told) ≡ 0) (HasNoErrorOfItsOwn kind card) =
+    tells_by kind made card refl (λ by. error_bits by (own_status told) ≡ 0) (λ by. HasNoErrorOfItsOwn by card)
+    (λ by fits. (let same = same_errors by made fits (own_status told) _ (agree_own made told _ shows) in
+    let law = own_status_errors by false card k in
+    (λ none. law.0 (sym same ∙ none), λ of_kind none. same ∙ law.1 of_kind none)))
+    (fewer (own_status told)) (sd_none_of_its_own card) in
+    (law.0 none).errors
+
 pub told_own : (kind : Kind) (told : ℕ) (card : Card) → IsCard card → ShowsItself card told
     → Tells kind card (error_bits kind (own_status told) ≡ 0) (HasNoErrorOfItsOwn kind card)
 told_own kind told card k shows =

@@ -33,7 +33,7 @@ use Rattle.mmc_card.specs.RowsErase.{erase_held, erases, erasing, hold_first, ho
 use Rattle.mmc_card.specs.RowsErase.{is_trim}
 use Rattle.mmc_card.specs.RowsIdentify.{inquired, is_served, may_lag}
 use Rattle.mmc_card.specs.RowsSwitch.{access_switched, accessed, part_accessed, switch_row, switched, write_byte}
-use Rattle.mmc_card.specs.RowsTransfer.{begun, preset, stopped, transfer_errors, transferred, errors_found}
+use Rattle.mmc_card.specs.RowsTransfer.{begun, preset, stopped, transfer_errors, transferred}
 use Rattle.mmc_card.specs.Sectors.{Change, IsIn, Sector, Sets, Within, maybe_changed, part_number, touches, value_of}
 
 -- made the same, of the same sizes, and no sector may hold more
@@ -301,16 +301,16 @@ widens_row choice SetBlocklen c index argument =
     wide _ c _
     (first_by_cond (Keeps c) (argument == 512) _ _ (λ _. plain c _ refl refl refl) (λ _. plain c _ refl refl refl))
 widens_row choice ReadSingleBlock c index argument =
-    wide _ c _ (keeps_transferred 17 (errors_found false choice c argument) c _ (keeps_begun Data true (Some 1) c argument))
+    wide _ c _ (keeps_transferred 17 (transfer_errors false c argument) c _ (keeps_begun Data true (Some 1) c argument))
 widens_row choice ReadMultipleBlock c index argument =
     wide _ c _
-    (keeps_transferred 18 (errors_found false choice c argument) c _ (keeps_begun Data false (preset c) c argument))
+    (keeps_transferred 18 (transfer_errors false c argument) c _ (keeps_begun Data false (preset c) c argument))
 widens_row choice SetBlockCount c index argument = wide _ c _ (plain c _ refl refl refl)
 widens_row choice WriteBlock c index argument =
-    wide _ c _ (keeps_transferred 24 (errors_found true choice c argument) c _ (keeps_begun Rcv true (Some 1) c argument))
+    wide _ c _ (keeps_transferred 24 (transfer_errors true c argument) c _ (keeps_begun Rcv true (Some 1) c argument))
 widens_row choice WriteMultipleBlock c index argument =
     wide _ c _
-    (keeps_transferred 25 (errors_found true choice c argument) c _ (keeps_begun Rcv false (preset c) c argument))
+    (keeps_transferred 25 (transfer_errors true c argument) c _ (keeps_begun Rcv false (preset c) c argument))
 widens_row choice EraseStart c index argument = wide _ c _ (keeps_first index c argument c.erase)
 widens_row choice EraseEnd c index argument = wide _ c _ (keeps_last index c argument c.erase)
 widens_row choice Erase c index argument = widens_erase c argument c.erase
@@ -350,6 +350,7 @@ widens_responded choice command c index argument =
     let change = erased_by_command command c argument in
     after_response (Widens change c) choice command c index argument (wide change c c (keeps_same c))
     (λ _. widens_reached choice command c index argument)
+    (wide change c _ (keeps_then (keeps_reached choice command c) (plain (reached choice command c) _ refl refl refl)))
     (wide change c _ (keeps_then (keeps_reached choice command c) (keeps_refused (reached choice command c))))
 
 pub widens_answered : (choice : Choice) (c : Card) (sent : Option (ℕ × ℕ))

@@ -29,7 +29,7 @@ use Rattle.mmc_card.specs.RowsErase.{erase_held, erases, erasing, forgotten, hol
 use Rattle.mmc_card.specs.RowsErase.{is_no_range, is_trim}
 use Rattle.mmc_card.specs.RowsIdentify.{inquired, is_served, may_lag}
 use Rattle.mmc_card.specs.RowsSwitch.{switch_row}
-use Rattle.mmc_card.specs.RowsTransfer.{transfer_errors, transferred, errors_found}
+use Rattle.mmc_card.specs.RowsTransfer.{transfer_errors, transferred}
 
 pub record IsOrdered (card : Card) : Type 0 where
   pub held : is_in card.state Tran ≡ false → card.erase ≡ NoAddress
@@ -305,18 +305,18 @@ ordered_row choice SetBlocklen c index argument l none k =
     first_by_cond IsOrdered (argument == 512) _ _
     (λ _. ordered_like c _ k refl refl refl (λ h. h) (λ h. h) (λ _. refl) k.inquiries k.polled) (λ _. ordered_shown c k)
 ordered_row choice ReadSingleBlock c index argument l none k =
-    ordered_transferred 17 (errors_found false choice c argument) c _ k
+    ordered_transferred 17 (transfer_errors false c argument) c _ k
     (ordered_from c _ l k refl refl refl (none refl) (λ h. cc) refl k.inquiries k.polled)
 ordered_row choice ReadMultipleBlock c index argument l none k =
-    ordered_transferred 18 (errors_found false choice c argument) c _ k
+    ordered_transferred 18 (transfer_errors false c argument) c _ k
     (ordered_from c _ l k refl refl refl (none refl) (λ h. cc) refl k.inquiries k.polled)
 ordered_row choice SetBlockCount c index argument l none k =
     ordered_like c _ k refl refl refl (λ h. h) (λ h. h) (λ _. refl) k.inquiries k.polled
 ordered_row choice WriteBlock c index argument l none k =
-    ordered_transferred 24 (errors_found true choice c argument) c _ k
+    ordered_transferred 24 (transfer_errors true c argument) c _ k
     (ordered_from c _ l k refl refl refl (none refl) (λ h. cc) refl k.inquiries k.polled)
 ordered_row choice WriteMultipleBlock c index argument l none k =
-    ordered_transferred 25 (errors_found true choice c argument) c _ k
+    ordered_transferred 25 (transfer_errors true c argument) c _ k
     (ordered_from c _ l k refl refl refl (none refl) (λ h. cc) refl k.inquiries k.polled)
 ordered_row choice EraseStart c index argument l none k =
     ordered_first index c argument c.erase (in_state c.state Tran l) k
@@ -358,7 +358,7 @@ ordered_responded choice command c index argument k =
     after_response IsOrdered choice command c index argument k
     (λ l. ordered_row choice command (reached choice command c) index argument (legal_reached choice command c ∙ l)
     (none_reached choice command c) now)
-    (ordered_refused (reached choice command c) now)
+    (ordered_shown (reached choice command c) now) (ordered_refused (reached choice command c) now)
 
 pub ordered_answered : (choice : Choice) (c : Card) (sent : Option (ℕ × ℕ)) → IsOrdered c
     → IsOrdered (answered choice c sent).0

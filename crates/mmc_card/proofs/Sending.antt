@@ -22,7 +22,7 @@ use Rattle.mmc_card.specs.Rows.{answered, leaves_erase, reached, responded, row}
 use Rattle.mmc_card.specs.RowsErase.{erase_held, hold_first, hold_last, holds_address, is_no_range}
 use Rattle.mmc_card.specs.RowsIdentify.{inquired, is_served, may_lag}
 use Rattle.mmc_card.specs.RowsSwitch.{ext_csd_now, is_read_of_status, is_to_speed_up, switch_row, switch_source}
-use Rattle.mmc_card.specs.RowsTransfer.{begun, preset, transfer_errors, transferred, errors_found}
+use Rattle.mmc_card.specs.RowsTransfer.{begun, preset, transfer_errors, transferred}
 use Rattle.mmc_card.specs.Blocks.{ignoring}
 use Rattle.mmc_card.specs.RowsSwitch.{is_read}
 
@@ -164,13 +164,13 @@ sending_row choice SendStatus c index argument k =
     first_by_cond IsSending (may_lag c && choice.is_behind) _ _ (λ _. sending_like c _ k refl refl refl)
     (λ _. sending_shown c k)
 sending_row choice ReadSingleBlock c index argument k =
-    sending_transferred 17 (errors_found false choice c argument) c _ k (sending_begun Data true (Some 1) c argument k)
+    sending_transferred 17 (transfer_errors false c argument) c _ k (sending_begun Data true (Some 1) c argument k)
 sending_row choice ReadMultipleBlock c index argument k =
-    sending_transferred 18 (errors_found false choice c argument) c _ k (sending_begun Data false (preset c) c argument k)
+    sending_transferred 18 (transfer_errors false c argument) c _ k (sending_begun Data false (preset c) c argument k)
 sending_row choice WriteBlock c index argument k =
-    sending_transferred 24 (errors_found true choice c argument) c _ k (sending_begun Rcv true (Some 1) c argument k)
+    sending_transferred 24 (transfer_errors true c argument) c _ k (sending_begun Rcv true (Some 1) c argument k)
 sending_row choice WriteMultipleBlock c index argument k =
-    sending_transferred 25 (errors_found true choice c argument) c _ k (sending_begun Rcv false (preset c) c argument k)
+    sending_transferred 25 (transfer_errors true c argument) c _ k (sending_begun Rcv false (preset c) c argument k)
 sending_row choice EraseStart c index argument k = sending_first index c argument c.erase k
 sending_row choice EraseEnd c index argument k = sending_last index c argument c.erase k
 sending_row choice Erase c index argument k = sending_erase c argument c.erase k
@@ -186,7 +186,8 @@ sending_responded : (choice : Choice) (command : Command) (c : Card) (index argu
 sending_responded choice command c index argument k =
     let now = sending_reached choice command c k in
     after_response IsSending choice command c index argument k
-    (λ _. sending_row choice command (reached choice command c) index argument now) (sending_refused (reached choice command c) now)
+    (λ _. sending_row choice command (reached choice command c) index argument now) (sending_shown (reached choice command c) now)
+    (sending_refused (reached choice command c) now)
 
 pub sending_answered : (choice : Choice) (c : Card) (sent : Option (ℕ × ℕ)) → IsSending c
     → IsSending (answered choice c sent).0

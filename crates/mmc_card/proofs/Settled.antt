@@ -33,7 +33,7 @@ use Rattle.mmc_card.specs.RowsErase.{holds_address, is_no_range, is_trim}
 use Rattle.mmc_card.specs.Sectors.{is_boot}
 use Rattle.mmc_card.specs.RowsIdentify.{inquired, is_served, may_lag}
 use Rattle.mmc_card.specs.RowsSwitch.{switch_row, switched}
-use Rattle.mmc_card.specs.RowsTransfer.{begun, preset, transfer_errors, transferred, errors_found}
+use Rattle.mmc_card.specs.RowsTransfer.{begun, preset, transfer_errors, transferred}
 
 pub record IsSettled (card : Card) : Type 0 where
   pub fits : FitsPart card
@@ -281,14 +281,14 @@ settled_row choice SetBlocklen c index argument l k =
     first_by_cond IsSettled (argument == 512) _ _
     (λ _. settled_like c _ k refl k.fits refl refl refl) (λ _. settled_shown c k)
 settled_row choice ReadSingleBlock c index argument l k =
-    settled_transferred 17 (errors_found false choice c argument) c _ k (settled_begun Data true (Some 1) c argument)
+    settled_transferred 17 (transfer_errors false c argument) c _ k (settled_begun Data true (Some 1) c argument)
 settled_row choice ReadMultipleBlock c index argument l k =
-    settled_transferred 18 (errors_found false choice c argument) c _ k (settled_begun Data false (preset c) c argument)
+    settled_transferred 18 (transfer_errors false c argument) c _ k (settled_begun Data false (preset c) c argument)
 settled_row choice SetBlockCount c index argument l k = settled_like c _ k refl k.fits refl refl refl
 settled_row choice WriteBlock c index argument l k =
-    settled_transferred 24 (errors_found true choice c argument) c _ k (settled_begun Rcv true (Some 1) c argument)
+    settled_transferred 24 (transfer_errors true c argument) c _ k (settled_begun Rcv true (Some 1) c argument)
 settled_row choice WriteMultipleBlock c index argument l k =
-    settled_transferred 25 (errors_found true choice c argument) c _ k (settled_begun Rcv false (preset c) c argument)
+    settled_transferred 25 (transfer_errors true c argument) c _ k (settled_begun Rcv false (preset c) c argument)
 settled_row choice EraseStart c index argument l k = settled_first index c argument c.erase k
 settled_row choice EraseEnd c index argument l k = settled_last index c argument c.erase k
 settled_row choice Erase c index argument l k = settled_erase c argument c.erase l k
@@ -306,7 +306,7 @@ settled_responded choice command c index argument k =
     let now = settled_reached choice command c k in
     after_response IsSettled choice command c index argument k
     (λ l. settled_row choice command (reached choice command c) index argument (legal_reached choice command c ∙ l) now)
-    (settled_refused (reached choice command c) now)
+    (settled_shown (reached choice command c) now) (settled_refused (reached choice command c) now)
 
 pub settled_answered : (choice : Choice) (c : Card) (sent : Option (ℕ × ℕ)) → IsSettled c
     → IsSettled (answered choice c sent).0

@@ -30,7 +30,7 @@ use Rattle.mmc_card.specs.declared.command.Command.TheVariants.{WriteMultipleBlo
 use Rattle.mmc_card.specs.Rows.{answered, command_of, is_legal, leaves_erase, reached, responded, row}
 use Rattle.mmc_card.specs.RowsErase.{erase_held, forgotten, hold_first, hold_last, holds_address, is_no_range}
 use Rattle.mmc_card.specs.RowsIdentify.{may_lag}
-use Rattle.mmc_card.specs.RowsTransfer.{begun, preset, transfer_errors, transferred, errors_found}
+use Rattle.mmc_card.specs.RowsTransfer.{begun, preset, transfer_errors, transferred}
 use Rattle.mmc_card.specs.Sectors.{Sector}
 use Rattle.mmc_card.specs.BusView.{BusView}
 use Rattle.mmc_card.specs.Blocks.{fallen_early, ignoring}
@@ -103,7 +103,7 @@ stands_reset s lands keeps_length c = record {
   };
 }
 
-stands_shown : (s : Setting) (c : Card) → Stands s c → Stands s (shown c)
+pub stands_shown : (s : Setting) (c : Card) → Stands s c → Stands s (shown c)
 stands_shown s c h =
     stands_like s c (shown c) refl refl refl
     (reset_like c (shown c) refl refl refl (λ b. b) (λ b. refl) (λ b. b) (λ b. refl) refl (λ b. b) refl) h
@@ -224,16 +224,16 @@ stands_row s choice SendStatus c index argument o l h =
 stands_row s choice SetBlockCount c index argument o l h =
     stands_like s c _ refl refl refl (λ a. tran_not_reset c (both (is_in c.state Tran) (has_cmd23 c.made) l).0 a) h
 stands_row s choice ReadSingleBlock c index argument o l h =
-    stands_transferred s 17 (errors_found false choice c argument) c _ h
+    stands_transferred s 17 (transfer_errors false c argument) c _ h
     (stands_begun s Data true (Some 1) c argument refl l h)
 stands_row s choice ReadMultipleBlock c index argument o l h =
-    stands_transferred s 18 (errors_found false choice c argument) c _ h
+    stands_transferred s 18 (transfer_errors false c argument) c _ h
     (stands_begun s Data false (preset c) c argument refl l h)
 stands_row s choice WriteBlock c index argument o l h =
-    stands_transferred s 24 (errors_found true choice c argument) c _ h
+    stands_transferred s 24 (transfer_errors true c argument) c _ h
     (stands_begun s Rcv true (Some 1) c argument refl l h)
 stands_row s choice WriteMultipleBlock c index argument o l h =
-    stands_transferred s 25 (errors_found true choice c argument) c _ h
+    stands_transferred s 25 (transfer_errors true c argument) c _ h
     (stands_begun s Rcv false (preset c) c argument refl l h)
 stands_row s choice EraseStart c index argument o l h = stands_first s index c argument c.erase l h
 stands_row s choice EraseEnd c index argument o l h = stands_last s index c argument c.erase l h
@@ -247,7 +247,7 @@ stands_responded s choice command c index argument o h =
     let now = stands_reached s choice command c h in
     after_response (Stands s) choice command c index argument h
     (λ l. stands_row s choice command (reached choice command c) index argument o (legal_reached choice command c ∙ l) now)
-    (stands_refused s (reached choice command c) now)
+    (stands_shown s (reached choice command c) now) (stands_refused s (reached choice command c) now)
 
 stands_answered : (s : Setting) (choice : Choice) (c : Card) (sent : Option (ℕ × ℕ)) → is_frame_of_run c sent ≡ true
     → Stands s c → Stands s (answered choice c sent).0

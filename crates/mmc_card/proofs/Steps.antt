@@ -78,7 +78,7 @@ after_command P old frame reply new stays answers leaves garbles bears survives 
       | slow_inquiry choice slow late inquiry count card spells ↦ along P card (answers choice)
       | slow_status choice behind late status count card spells ↦ along P card (answers choice)
       | fail_switch choice fails switch count card spells ↦ along P card (answers choice)
-      | find_error choice finds patient transfers count card spells ↦ along P card (answers choice)
+      | find_error choice finds patient may count card spells ↦ along P card (answers choice)
       | outlive choice bits argument among patient resets count card silent ↦ along P card (bears bits _ among (answers choice))
       | show_errors choice left found among errors some cleared patient count card spells ↦ along P card
           (leaves choice left found among (among_all found errors))

@@ -15,7 +15,7 @@ use Rattle.mmc_card.specs.declared.part.Part.TheVariants.{Boot1, Boot2, Gp1, Gp2
 use Rattle.mmc_card.proofs.ByteLemmas.{access_below}
 use Rattle.mmc_card.proofs.CardRows.{legal_reached}
 use Rattle.mmc_card.proofs.Conditions.{by_cond, first_by_cond}
-use Rattle.mmc_card.proofs.Standing.{stands_garbled, stands_showing, stands_quiet, stands_raised, stands_reached, stands_refused, stands_reset, up_in}
+use Rattle.mmc_card.proofs.Standing.{stands_garbled, stands_showing, stands_quiet, stands_raised, stands_reached, stands_refused, stands_reset, stands_shown, up_in}
 use Rattle.mmc_card.proofs.Steps.{after_command}
 use Rattle.mmc_card.specs.CardAnswer.{Choice, showing}
 use Rattle.mmc_card.specs.Card.{Card, is_in, stored}
@@ -23,7 +23,7 @@ use Rattle.mmc_card.specs.Faults.{MeetsCommand}
 use Rattle.mmc_card.specs.Laws.{Setting, Stands, StandsIn, SwitchesTo}
 use Rattle.mmc_card.specs.Made.{Made}
 use Rattle.mmc_card.specs.declared.command.Command.TheVariants.{Switch}
-use Rattle.mmc_card.specs.Rows.{answered, command_of, is_legal, reached, respond, responded}
+use Rattle.mmc_card.specs.Rows.{answered, command_of, found, is_legal, reached, respond, responded}
 use Rattle.mmc_card.specs.RowsSwitch.{access_number, accessed, part_accessed, partition_config_for, programs_switch}
 use Rattle.mmc_card.specs.RowsErase.{holds_address}
 use Rattle.mmc_card.specs.RowsSwitch.{switch_row, switched, write_byte}
@@ -125,10 +125,12 @@ switch_responds s part choice c argument is h =
     let d = reached choice Switch c in
     let held = stands_reached s choice Switch c h in
     first_by_cond (Switched part s) (is_legal Switch c) _ _
-    (λ l. switch_stands s part choice.says_late d _
+    (λ l. first_by_cond (Switched part s) (found choice Switch == 0) _ _
+    (λ _. switch_stands s part choice.says_late d _
     (may_fail part d argument choice.fails_switch
     (is ∙ ap (λ (m : Made). write_byte 179 (partition_config_for m part)) (sym (same_made choice c))))
     (legal_reached choice Switch c ∙ l) held)
+    (λ _. inl (stands_shown s d held)))
     (λ _. inl (stands_refused s d held))
 
 switch_answers : (s : Setting) (part : Part) (choice : Choice) (kind : Kind) (c : Card) (argument : ℕ) → kind ≡ Mmc

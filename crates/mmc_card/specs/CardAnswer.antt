@@ -37,7 +37,7 @@ pub record Choice : Type 0 where
   -- a switch of an eMMC device fails; where none is carried out, the status after it alone says so
   pub fails_switch : Bool
   pub says_late : Bool
-  -- which error bits a read or a write finds, so that it doesn't begin
+  -- which error bits a command finds, so that it isn't carried out
   pub finds : ℕ
   -- CMD12 that ends a read leaves the card busy
   pub stays_busy : Bool

@@ -15,11 +15,10 @@ use Rattle.mmc_card.specs.Blocks.{accepted, asked_for, can_send, can_accept, fal
 use Rattle.mmc_card.specs.Blocks.{offered, polled_once, programmed, rejected, rested, run_past, sent, waited, will_send}
 use Rattle.mmc_card.specs.Card.{AreAmong, Card, is_in, patience}
 use Rattle.mmc_card.specs.declared.command.Command.{Command}
-use Rattle.mmc_card.specs.declared.command.Command.TheVariants.{SdSendOpCond, SendOpCond, Switch, WriteBlock, WriteMultipleBlock}
-use Rattle.mmc_card.specs.declared.command.Command.TheVariants.{ReadMultipleBlock, ReadSingleBlock, SendStatus}
+use Rattle.mmc_card.specs.declared.command.Command.TheVariants.{SdSendOpCond, SendOpCond, SendStatus, Switch}
 use Rattle.mmc_card.specs.Judged.{IsSaid}
 use Rattle.mmc_frame.specs.declared.commands.TheConstants as Index
-use Rattle.mmc_card.specs.Rows.{answered, command_of, is_foreign}
+use Rattle.mmc_card.specs.Rows.{answered, command_of, is_foreign, may_find}
 use Rattle.mmc_card.specs.RowsIdentify.{is_served, may_lag}
 use Rattle.mmc_card.specs.RowsSwitch.{switched}
 use Rattle.mmc_card.specs.BusView.{BusView}
@@ -104,21 +103,14 @@ IsPunctual choice card = choice.is_behind ≡ true → card.polled < patience
 abbrev pub IsTimely : Choice → Card → Type 0
 IsTimely choice card = IsPatient choice card.inquiries × IsPunctual choice card
 
--- and no switch fails, and no read or write finds an error
+-- and no switch fails, and no command finds an error
 abbrev pub IsFaultless : Choice → Card → Type 0
 IsFaultless choice card = IsTimely choice card × (choice.fails_switch ≡ false) × (choice.finds ≡ 0)
 
--- CMD17, CMD18, CMD24 or CMD25
-abbrev pub is_transfer : Command → Bool
-is_transfer ReadSingleBlock = true
-is_transfer ReadMultipleBlock = true
-is_transfer WriteBlock = true
-is_transfer WriteMultipleBlock = true
-is_transfer _ = false
-
-abbrev pub is_transfer_frame : Card → Option (ℕ × ℕ) → Bool
-is_transfer_frame card (Some command) = is_transfer (command_of card.made.kind card.app command.0)
-is_transfer_frame card None = false
+-- a command that an error may keep from being carried out
+abbrev pub may_find_frame : Card → Option (ℕ × ℕ) → Bool
+may_find_frame card (Some command) = may_find (command_of card.made.kind card.app command.0)
+may_find_frame card None = false
 
 -- some error bits of execution, one at least
 abbrev pub AreOfExecution : ℕ → Type 0
@@ -179,10 +171,10 @@ pub data MeetsCommand (old : BusView) (frame : List ℕ) (reply : Reply) (new : 
       → OneFault old new → new.card ≡ (answered choice old.card (command_in frame)).0
       → Replies old.card (answered choice old.card (command_in frame)).1 reply
       → MeetsCommand old frame reply new
-  -- A read or a write finds an error: it doesn't begin, and its response says why, as WP_VIOLATION of sectors that CMD28 has
-  -- protected (SD Physical Layer 6.00, section 4.3.6; JESD84-B51, section 6.6.15).
+  -- A command finds an error: it isn't carried out, and its response says why, as WP_VIOLATION of sectors that CMD28 has
+  -- protected (SD Physical Layer 6.00, sections 4.3.6 and 4.10.1; JESD84-B51, sections 6.6.15 and 6.13).
   find_error : (choice : Choice) → AreOfExecution choice.finds → IsPatient choice old.card.inquiries
-      → is_transfer_frame old.card (command_in frame) ≡ true → OneFault old new
+      → may_find_frame old.card (command_in frame) ≡ true → OneFault old new
       → new.card ≡ (answered choice old.card (command_in frame)).0
       → Replies old.card (answered choice old.card (command_in frame)).1 reply
       → MeetsCommand old frame reply new

@@ -1,7 +1,7 @@
 -- Relation (docs/AUDIT.md, "What to read").
 -- What a faithful card does with a command. Which states carry out a command is the project's own choice, made here
 -- once after the standard's tables (SD Physical Layer 6.00, table 4-35; JESD84-B51, table 60).
-use Rattle.std.specs.Prelude.{◌&&◌, ◌==◌, ◌||◌, Bool, None, Option, Some, false, if◌then◌else◌, not, true, ℕ}
+use Rattle.std.specs.Prelude.{◌&&◌, ◌==◌, ◌||◌, Bool, None, Option, Some, bit_or, false, if◌then◌else◌, not, true, ℕ}
 use Rattle.mmc_frame.specs.Field.{field}
 use Rattle.mmc_frame.specs.declared.card_state.State.TheVariants.{Data, Ident, Idle, Rcv, Ready, Stby, Tran}
 use Rattle.mmc_frame.specs.declared.kind.Kind.{Kind}
@@ -15,8 +15,8 @@ use Rattle.mmc_card.specs.declared.command.Command.TheVariants.{SendExtCsd, Send
 use Rattle.mmc_card.specs.declared.command.Command.TheVariants.{SendStatus, SetBlockCount, SetBlocklen, SetRelativeAddr}
 use Rattle.mmc_card.specs.declared.command.Command.TheVariants.{StopTransmission, Switch, SwitchFunc, Unknown}
 use Rattle.mmc_card.specs.declared.command.Command.TheVariants.{WriteBlock, WriteMultipleBlock}
-use Rattle.mmc_card.specs.CardAnswer.{CardAnswer, Choice, Silent, garbled, raised, refused}
-use Rattle.mmc_card.specs.ErrorBits.{erase_reset}
+use Rattle.mmc_card.specs.CardAnswer.{CardAnswer, Checked, Choice, Silent, garbled, raised, refused, shown, status}
+use Rattle.mmc_card.specs.ErrorBits.{erase_reset, execution_error_bits}
 use Rattle.mmc_card.specs.Card.{Card, is_identified, is_in}
 use Rattle.mmc_card.specs.Made.{has_cmd23, has_switch_function, is_mmc, is_sd}
 use Rattle.mmc_card.specs.RowsErase.{erase_held, forgotten, hold_first, hold_last, holds_address}
@@ -117,11 +117,11 @@ row choice SendCsd card index argument = send_csd card
 row choice StopTransmission card index argument = stop_transmission choice card
 row choice SendStatus card index argument = send_status choice card
 row choice SetBlocklen card index argument = set_blocklen card argument
-row choice ReadSingleBlock card index argument = read_single_block choice card argument
-row choice ReadMultipleBlock card index argument = read_multiple_block choice card argument
+row choice ReadSingleBlock card index argument = read_single_block card argument
+row choice ReadMultipleBlock card index argument = read_multiple_block card argument
 row choice SetBlockCount card index argument = set_block_count_to card argument
-row choice WriteBlock card index argument = write_block choice card argument
-row choice WriteMultipleBlock card index argument = write_multiple_block choice card argument
+row choice WriteBlock card index argument = write_block card argument
+row choice WriteMultipleBlock card index argument = write_multiple_block card argument
 row choice EraseStart card index argument = hold_first index card argument card.erase
 row choice EraseEnd card index argument = hold_last index card argument card.erase
 row choice Erase card index argument = erase_held card argument card.erase
@@ -150,11 +150,47 @@ without_addresses quietly card =
 abbrev pub reached : Choice → Command → Card → Card
 reached choice command card = if leaves_erase command then card else without_addresses choice.drops_quietly card
 
+-- The commands that an error may keep from being carried out: all with an R1 but CMD7 and CMD12, which are carried out with any
+-- error, and CMD13, which asks for it.
+abbrev pub may_find : Command → Bool
+may_find SetRelativeAddr = true
+may_find SendExtCsd = true
+may_find SetBlocklen = true
+may_find ReadSingleBlock = true
+may_find ReadMultipleBlock = true
+may_find SetBlockCount = true
+may_find WriteBlock = true
+may_find WriteMultipleBlock = true
+may_find EraseStart = true
+may_find EraseEnd = true
+may_find Erase = true
+may_find Switch = true
+may_find SwitchFunc = true
+may_find SetBusWidth = true
+may_find SendScr = true
+may_find AppCmd = true
+may_find _ = false
+
+-- which error bits such a command finds: those of execution, if any
+abbrev pub found : Choice → Command → ℕ
+found choice command =
+    if may_find command && (bit_or choice.finds execution_error_bits == execution_error_bits) then choice.finds else 0
+
+-- It isn't carried out: its R1 shows these errors, and nothing else comes of it (SD Physical Layer 6.00, section 4.10.1, types r
+-- and x; JESD84-B51, section 6.13).
+abbrev pub hindered : ℕ → Card → ℕ → Card × CardAnswer
+hindered bits card index = (shown card, Checked index (status false (raised bits card)))
+
+-- A legal command of the card that it has reached.
+abbrev pub obeyed : Choice → Command → Card → ℕ → ℕ → Card × CardAnswer
+obeyed choice command card index argument =
+    if found choice command == 0 then row choice command card index argument else hindered (found choice command) card index
+
 -- A sound command: the card after it, and its answer. One that names another card changes nothing.
 abbrev pub responded : Choice → Command → Card → ℕ → ℕ → Card × CardAnswer
 responded choice command card index argument =
     if is_foreign command card argument then (card, Silent)
-    else if is_legal command card then row choice command (reached choice command card) index argument
+    else if is_legal command card then obeyed choice command (reached choice command card) index argument
     else (refused (reached choice command card), Silent)
 
 abbrev pub respond : Choice → Card → ℕ → ℕ → Card × CardAnswer

@@ -2,7 +2,7 @@
 -- Transfers of blocks (SD Physical Layer 6.00, sections 4.3.3 and 4.3.4; JESD84-B51, sections 6.6.6 to 6.6.8), and the
 -- registers that an SD card sends as blocks. Each row is what a card does with a command in a state where it is legal,
 -- and its answer.
-use Rattle.std.specs.Prelude.{◌&&◌, ◌*◌, ◌+◌, ◌==◌, Bool, List, None, Option, Some, [], bit_or, false, if◌then◌else◌, length}
+use Rattle.std.specs.Prelude.{◌&&◌, ◌*◌, ◌+◌, ◌==◌, Bool, List, None, Option, Some, [], false, if◌then◌else◌, length}
 use Rattle.std.specs.Prelude.{nat_le, not, true, ℕ}
 use Rattle.mmc_frame.specs.Field.{field}
 use Rattle.mmc_frame.specs.declared.card_state.State.{State}
@@ -10,7 +10,7 @@ use Rattle.mmc_frame.specs.declared.card_state.State.TheVariants.{Data, Prg, Rcv
 use Rattle.mmc_frame.specs.declared.commands.TheConstants as Index
 use Rattle.mmc_card.specs.declared.exchange.Timing.{Timing}
 use Rattle.mmc_card.specs.CardAnswer.{CardAnswer, Checked, Choice, Silent, bit, busied, raised, refused, shown, status}
-use Rattle.mmc_card.specs.ErrorBits.{address_error, block_len_error, execution_error_bits, out_of_range, wp_violation}
+use Rattle.mmc_card.specs.ErrorBits.{address_error, block_len_error, out_of_range, wp_violation}
 use Rattle.mmc_card.specs.Card.{Card, FromBytes, FromSectors, Source, is_in, stored}
 use Rattle.mmc_card.specs.Made.{is_misaligned, is_read_only, is_sd, sector_at}
 
@@ -83,34 +83,27 @@ transferred index errors card after =
     then (after, Checked index (status false card))
     else (shown card, Checked index (status false (raised errors card)))
 
--- which error bits it finds besides: those of execution, if any
-abbrev pub found : Choice → ℕ
-found choice = if bit_or choice.finds execution_error_bits == execution_error_bits then choice.finds else 0
-
-abbrev pub errors_found : Bool → Choice → Card → ℕ → ℕ
-errors_found is_write choice card address = bit_or (transfer_errors is_write card address) (found choice)
-
 -- CMD17, READ_SINGLE_BLOCK
-abbrev pub read_single_block : Choice → Card → ℕ → Card × CardAnswer
-read_single_block choice card address =
-    transferred Index.READ_SINGLE_BLOCK (errors_found false choice card address) card
+abbrev pub read_single_block : Card → ℕ → Card × CardAnswer
+read_single_block card address =
+    transferred Index.READ_SINGLE_BLOCK (transfer_errors false card address) card
     (begun Data true (Some 1) card address)
 
 -- CMD18, READ_MULTIPLE_BLOCK
-abbrev pub read_multiple_block : Choice → Card → ℕ → Card × CardAnswer
-read_multiple_block choice card address =
-    transferred Index.READ_MULTIPLE_BLOCK (errors_found false choice card address) card
+abbrev pub read_multiple_block : Card → ℕ → Card × CardAnswer
+read_multiple_block card address =
+    transferred Index.READ_MULTIPLE_BLOCK (transfer_errors false card address) card
     (begun Data false (preset card) card address)
 
 -- CMD24, WRITE_BLOCK
-abbrev pub write_block : Choice → Card → ℕ → Card × CardAnswer
-write_block choice card address =
-    transferred Index.WRITE_BLOCK (errors_found true choice card address) card (begun Rcv true (Some 1) card address)
+abbrev pub write_block : Card → ℕ → Card × CardAnswer
+write_block card address =
+    transferred Index.WRITE_BLOCK (transfer_errors true card address) card (begun Rcv true (Some 1) card address)
 
 -- CMD25, WRITE_MULTIPLE_BLOCK
-abbrev pub write_multiple_block : Choice → Card → ℕ → Card × CardAnswer
-write_multiple_block choice card address =
-    transferred Index.WRITE_MULTIPLE_BLOCK (errors_found true choice card address) card
+abbrev pub write_multiple_block : Card → ℕ → Card × CardAnswer
+write_multiple_block card address =
+    transferred Index.WRITE_MULTIPLE_BLOCK (transfer_errors true card address) card
     (begun Rcv false (preset card) card address)
 
 -- the card sends what this names

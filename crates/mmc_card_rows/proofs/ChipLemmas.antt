@@ -2,24 +2,24 @@
 use Rattle.std.proofs.Common.{◌%◌, ◌*◌, ◌+◌, ◌/◌, ◌==◌, ◌^◌, ◌∙◌, ◌≡◌, ◌≤◌, Bool, List, ap, arith, bit_or, false, refl}
 use Rattle.std.proofs.Common.{subst, sym, true, ℕ}
 use Rattle.std.proofs.lemmas.Bool.Decides.{nat_tests}
-use Rattle.std.specs.Prelude.{◌||◌, if◌then◌else◌, nat_le}
+use Rattle.std.specs.Prelude.{if◌then◌else◌, nat_le}
 use Rattle.mmc_frame.proofs.Bytes.{and_true}
 use Rattle.mmc_card.proofs.Cards.{among_wider}
 use Rattle.mmc_card.specs.Faults.{AreOfExecution}
 use Rattle.std.specs.Int.{bit_at}
-use Rattle.std.specs.Int.Bits.{or_add_and, or_zero_r}
+use Rattle.std.specs.Int.Bits.{or_add_and}
 use Rattle.std.specs.Int.RustNames.{bit_and}
 use Rattle.std.proofs.lemmas.Bool.{eqb-true, ne_eqb}
-use Rattle.std.proofs.lemmas.Nat.{and_block, and_le_r, le_or_l, shr-shr, shr_split}
+use Rattle.std.proofs.lemmas.Nat.{and_block, and_le_r, le_or_l, or_block, shr-shr, shr_split}
 use Rattle.std.proofs.lemmas.Nat.Bits.{bit_at_or, same_from_bits}
 use Rattle.mmc_card.specs.Card.{AreAmong, Card}
-use Rattle.mmc_card.specs.CardAnswer.{CardAnswer, Checked, Choice, bit, raised, shown, status}
+use Rattle.mmc_card.specs.CardAnswer.{CardAnswer, Checked, bit, raised, shown, status}
 use Rattle.mmc_card.specs.ErrorBits.{address_error, block_len_error, command_error_bits, error_bits}
 use Rattle.mmc_card.specs.ErrorBits.{execution_error_bits, out_of_range, wp_violation}
-use Rattle.mmc_card.specs.RowsTransfer.{errors_found, transfer_errors, transferred}
+use Rattle.mmc_card.specs.Rows.{hindered}
+use Rattle.mmc_card.specs.RowsTransfer.{transferred}
 use Rattle.mmc_card.specs.Sectors.{Change, Sector}
-use Rattle.mmc_card_rows.specs.Chip.{Answers, card_of, command_choice, errors_with}
-use Rattle.mmc_card_rows.specs.declared.delays.Delays.{Delays}
+use Rattle.mmc_card_rows.specs.Chip.{Answers, card_of}
 use Rattle.mmc_card_rows.specs.FaultErrors.{are_of_execution}
 use Rattle.mmc_card_rows.specs.declared.answer.Answer.{Answer}
 use Rattle.mmc_card_rows.specs.declared.chip.Chip.{Chip}
@@ -55,6 +55,16 @@ execution_held bits h =
       sym (or_held bits (2 ^ 13 * execution_error_bits)) ∙ ap (λ n. n / 2 ^ 13) among,
       λ none. omega (arith, some, none),
     )
+
+-- those that a command finds, in units of bit 13
+pub found_few : (found : ℕ) → AreAmong found execution_error_bits → found ≤ execution_error_bits
+found_few found among = omega (arith, le_or_l found execution_error_bits, among)
+
+pub found_known : (found : ℕ) → AreAmong found execution_error_bits → AreAmong (2 ^ 13 * found) (2 ^ 13 * error_bits)
+found_known found among =
+    let wider = among_wider found execution_error_bits error_bits among refl in
+    let block = or_block 13 found error_bits 0 0 (omega arith) (omega arith) in
+    subst (λ n. bit_or n (2 ^ 13 * error_bits) ≡ 2 ^ 13 * error_bits) (omega arith) (block ∙ ap (λ n. n * 2 ^ 13 + 0) wider)
 
 -- among bits from bit 13 on there is none below
 whole : (bits all : ℕ) → AreAmong bits (all * 2 ^ 13 + 0) → bits ≡ 2 ^ 13 * (bits / 2 ^ 13)
@@ -103,45 +113,6 @@ transfer_errors_known false false true false = refl
 transfer_errors_known false false false true = refl
 transfer_errors_known false false false false = refl
 
--- a write that finds its sectors protected has WP_VIOLATION among its errors
-protected_too : (beyond misaligned other protected : Bool)
-    → out_of_range * bit beyond + address_error * bit misaligned + block_len_error * bit other + wp_violation
-    ≡ bit_or
-    (out_of_range * bit beyond + address_error * bit misaligned + block_len_error * bit other
-    + wp_violation * bit protected)
-    wp_violation
-protected_too true true true true = refl
-protected_too true true true false = refl
-protected_too true true false true = refl
-protected_too true true false false = refl
-protected_too true false true true = refl
-protected_too true false true false = refl
-protected_too true false false true = refl
-protected_too true false false false = refl
-protected_too false true true true = refl
-protected_too false true true false = refl
-protected_too false true false true = refl
-protected_too false true false false = refl
-protected_too false false true true = refl
-protected_too false false true false = refl
-protected_too false false false true = refl
-protected_too false false false false = refl
-
--- the error bits of a transfer, in a status
-pub errors_by : (beyond misaligned other protected finds : Bool)
-    → 2 ^ 13 * out_of_range * bit beyond + 2 ^ 13 * address_error * bit misaligned
-    + 2 ^ 13 * block_len_error * bit other + 2 ^ 13 * wp_violation * bit (finds || protected)
-    ≡ 2 ^ 13
-    * (if finds
-    then bit_or
-    (out_of_range * bit beyond + address_error * bit misaligned + block_len_error * bit other
-    + wp_violation * bit protected)
-    wp_violation
-    else out_of_range * bit beyond + address_error * bit misaligned + block_len_error * bit other
-    + wp_violation * bit protected)
-errors_by beyond misaligned other protected true = omega (arith, protected_too beyond misaligned other protected)
-errors_by beyond misaligned other protected false = omega arith
-
 -- a chip has an error where the card has one
 some_held : (bits errors : ℕ) → bits ≡ 2 ^ 13 * errors → (bits == 0) ≡ false → (errors == 0) ≡ false
 some_held bits errors held some =
@@ -160,18 +131,17 @@ refused_transfer index bits errors card after now new answer held some raises di
     rw (ap choose (some_held bits errors held some))
     (did.0 ∙ ap shown is, did.1 ∙ ap (λ (c : Card). Checked index (status false c)) is, did.2)
 
--- what a card finds is the protection that it is to find
-found_so : (finds is_write : Bool) (choice : Choice) (card : Card) (address : ℕ) → choice.finds ≡ (if finds then wp_violation else 0)
-    → errors_with finds is_write card address ≡ errors_found is_write choice card address
-found_so true is_write choice card address is = rw is refl
-found_so false is_write choice card address is = rw is (sym (or_zero_r (transfer_errors is_write card address)))
+-- a command that finds nothing is carried out, and one that finds an error is not
+pub carried_out : (found bits index : ℕ) (card : Card) (step : Card × CardAnswer) (new : Chip) (answer : Answer) → found ≡ bits
+    → found ≡ 0 → Answers step new answer → Answers (if bits == 0 then step else hindered bits card index) new answer
+carried_out found bits index card step new answer is none did =
+    subst (λ (n : ℕ). Answers (if n == 0 then step else hindered n card index) new answer) is (rw none did)
 
-pub found_with : (index : ℕ) (is_write : Bool) (delays : Delays) (card after : Card) (address : ℕ) (new : Chip) (answer : Answer)
-    → Answers (transferred index (errors_with delays.finds_protection is_write card address) card after) new answer
-    → Answers (transferred index (errors_found is_write (command_choice delays card) card address) card after) new answer
-found_with index is_write delays card after address new answer did =
-    subst (λ (n : ℕ). Answers (transferred index n card after) new answer)
-    (found_so delays.finds_protection is_write (command_choice delays card) card address refl) did
+pub hindered_by : (found bits index : ℕ) (card : Card) (step : Card × CardAnswer) (new : Chip) (answer : Answer) → found ≡ bits
+    → (found ≡ 0 → ⊥) → Answers (hindered found card index) new answer
+    → Answers (if bits == 0 then step else hindered bits card index) new answer
+hindered_by found bits index card step new answer is some did =
+    subst (λ (n : ℕ). Answers (if n == 0 then step else hindered n card index) new answer) is (rw (ne_eqb found 0 some) did)
 
 -- a change of a partition is unfinished
 pub with_change : (card : Card) (parts : List (List Sector)) (start : ℕ) (values : List Sector) (change : Change)

@@ -1,5 +1,5 @@
 -- What a chip in memory stands for, and the choices that it makes where a card is free.
-use Rattle.std.specs.Prelude.{◌%◌, ◌&&◌, ◌+◌, ◌/◌, ◌==◌, ◌^◌, ◌≡◌, Bool, List, bit_or, false, if◌then◌else◌, is_some, length, nat_lt, not}
+use Rattle.std.specs.Prelude.{◌%◌, ◌&&◌, ◌+◌, ◌/◌, ◌==◌, ◌^◌, ◌≡◌, Bool, List, false, if◌then◌else◌, is_some, length, nat_lt, not}
 use Rattle.std.specs.Prelude.{◌∷◌, None, Option, Some, [], true, ℕ}
 use Rattle.mmc_frame.specs.declared.card_state.State.{State}
 use Rattle.mmc_frame.specs.declared.card_state.State.TheVariants.{Data, Prg, Tran}
@@ -12,8 +12,6 @@ use Rattle.mmc_card.specs.declared.exchange.Lines.{Lines}
 use Rattle.mmc_card.specs.Blocks.{asked_for, can_send, next_block, rested, sent}
 use Rattle.mmc_card.specs.Card.{Both, Card, First, FromBytes, FromSectors, Held, NoAddress, Source as CardSource, is_in, patience}
 use Rattle.mmc_card.specs.CardAnswer.{CardAnswer, Choice}
-use Rattle.mmc_card.specs.ErrorBits.{wp_violation}
-use Rattle.mmc_card.specs.RowsTransfer.{transfer_errors}
 use Rattle.mmc_card_rows.specs.declared.answer.Answer.{Answer}
 use Rattle.mmc_card_rows.specs.declared.chip.Addresses.{Addresses}
 use Rattle.mmc_card_rows.specs.declared.chip.Addresses.TheVariants as Is
@@ -130,7 +128,7 @@ command_choice delays card =
       refuses_speed = refuses delays.refusal;
       unread = life_time_bytes card.made.kind delays.life_time;
       selects_none = selects_none delays.refusal;
-      finds = if delays.finds_protection then wp_violation else 0;
+      finds = delays.finds / 2 ^ 13;
       stays_busy = delays.stays_busy;
       is_behind =
           nat_lt card.polled patience
@@ -158,9 +156,9 @@ delays_after delays command rca =
       life_time = if is_reset command then aged delays.life_time else delays.life_time;
     }
 
--- the same, but that a read or a write finds its sectors protected
-abbrev pub finding_protection : Delays → Delays
-finding_protection delays = record delays { finds_protection = true }
+-- the same, but that a command finds these error bits, as a status has them
+abbrev pub finding : ℕ → Delays → Delays
+finding bits delays = record delays { finds = bits }
 
 -- What it chooses after any exchange, by the states before it and after it: what a status shows that lags behind tran.
 abbrev pub moved_on : Delays → State → State → Delays
@@ -178,16 +176,11 @@ by_itself card = if is_in card.state Data then run_on_once card else rested card
 abbrev pub passed : Delays → Card → Card
 passed delays card = if delays.goes_on then by_itself card else card
 
--- it takes as long as before, and finds its sectors protected or not as before
+-- it takes as long as before, and finds the same error bits
 pub record KeepsWaits (old new : Delays) : Type 0 where
   pub ready : new.ready ≡ old.ready
   pub busy : new.busy ≡ old.busy
-  pub finds_protection : new.finds_protection ≡ old.finds_protection
-
--- why a transfer can't begin, where it finds its sectors protected or not
-abbrev pub errors_with : Bool → Bool → Card → ℕ → ℕ
-errors_with finds is_write card address =
-    if finds then bit_or (transfer_errors is_write card address) wp_violation else transfer_errors is_write card address
+  pub finds : new.finds ≡ old.finds
 
 -- the chip is the card after a step, and this is its answer
 abbrev pub Answers : Card × CardAnswer → Chip → Answer → Type 0

@@ -1,6 +1,7 @@
 pub mod Answer
 pub mod Chip
 pub mod FaultErrors
+pub mod Finding
 pub mod Registers
 pub mod SectorLists
 pub mod Sizes

@@ -2,12 +2,12 @@
 ghost use Rattle.std.specs.Prelude.{◌&&◌, ◌*◌, ◌/◌, ◌<◌, ◌^◌, ◌≡◌, ◌≤◌, false, if◌then◌else◌};
 ghost use Rattle.mmc_frame.specs.Status.{bits_in, state_number};
 ghost use Rattle.mmc_card.specs.Card.{AreAmong, patience};
-ghost use Rattle.mmc_card.specs.ErrorBits.{command_error_bits, error_bits};
+ghost use Rattle.mmc_card.specs.ErrorBits.{command_error_bits, error_bits, execution_error_bits};
 ghost use Rattle.mmc_card.specs.Made.{erase_unit_of_card, first_rca, is_read_only, is_sd, named_block_length};
 ghost use Rattle.mmc_card_rows.specs.Registers.{made_of};
 
 use crate::answer::Answer;
-use crate::command::command_of;
+use crate::command::{command_of, may_find};
 use crate::delays::Delays;
 use crate::registers::Registers;
 use crate::status_bits::bits_if;
@@ -22,6 +22,9 @@ pub const PATIENCE: u8 = 15;
 
 // CURRENT_STATE in a status, from bit 9 on.
 const CURRENT_STATE: u32 = 0x200;
+
+/// The lowest error bit in a status, bit 13.
+pub const FIRST_ERROR: u32 = 0x2000;
 
 /// The addresses that an erase is to go by.
 #[derive(Clone, Copy, Debug)]
@@ -158,8 +161,9 @@ impl Chip {
     ghost use Rattle.mmc_card_rows.specs.Chip.{Answers, card_of, choice_of, command_choice};
     ghost use Rattle.mmc_card_rows.specs.Store.{parts_of, values_of};
     ghost use Rattle.std.specs.Prelude.{[], None};
-    ghost use Rattle.mmc_card.specs.Rows.{answered, is_legal, reached, respond, row};
-    ghost use Rattle.mmc_card.specs.Faults.{is_switch_frame, is_transfer_frame};
+    ghost use Rattle.mmc_card.specs.Rows.{answered, hindered, is_foreign, is_legal, obeyed, reached, respond, row};
+    ghost use Rattle.mmc_card.specs.Faults.{is_switch_frame};
+    ghost use Rattle.mmc_card_rows.specs.Finding.{can_find};
     ghost use Rattle.mmc_card_rows.specs.Transfers.{is_write_frame};
     ghost use Rattle.mmc_card.specs.RowsSwitch.{switch_row};
     ghost use Rattle.mmc_card.specs.declared.command.Command.TheVariants.{Switch};
@@ -366,11 +370,11 @@ impl Chip {
             Command::StopTransmission => self.stop_transmission(delays),
             Command::SendStatus => self.send_status(delays),
             Command::SetBlocklen => self.set_blocklen(argument),
-            Command::ReadSingleBlock => self.read_single_block(delays, argument),
-            Command::ReadMultipleBlock => self.read_multiple_block(delays, argument),
+            Command::ReadSingleBlock => self.read_single_block(argument),
+            Command::ReadMultipleBlock => self.read_multiple_block(argument),
             Command::SetBlockCount => self.set_block_count(argument),
-            Command::WriteBlock => self.write_block(delays, argument),
-            Command::WriteMultipleBlock => self.write_multiple_block(delays, argument),
+            Command::WriteBlock => self.write_block(argument),
+            Command::WriteMultipleBlock => self.write_multiple_block(argument),
             Command::EraseStart => self.hold_first(index, argument),
             Command::EraseEnd => self.hold_last(index, argument),
             Command::Erase => self.erase(argument),
@@ -383,6 +387,38 @@ impl Chip {
         }
     }
 
+    // A command isn't carried out, and its response shows these errors, in units of bit 13.
+    #[tactic(auto, using(crate::proofs::ChipLemmas::found_few, crate::proofs::ChipLemmas::found_known))]
+    fn hinder(&mut self, found: u32, index: u8) -> Answer
+        requires index { index < 64 }
+        requires execution { AreAmong found execution_error_bits }
+        ensures { Answers (hindered found (card_of self.old) index) self.new result }
+    {
+        self.raise_bits(FIRST_ERROR * found);
+        self.respond_status(index, false)
+    }
+
+    // A legal command of the card: it is carried out, or finds an error.
+    fn obey(&mut self, delays: Delays, command: Command, index: u8, argument: u32) -> Answer
+        requires { index < 64 }
+        ensures { Answers (obeyed (command_choice delays (card_of self.old)) command (card_of self.old) index argument)
+            self.new result }
+    {
+        let found = delays.found(command);
+        if found == 0 {
+            self.carry_out(delays, command, index, argument)
+        } else {
+            self.hinder(found, index)
+        }
+    }
+
+    // Whether a command names another card.
+    fn is_foreign(&self, command: Command, argument: u32) -> bool
+        ensures { result ≡ is_foreign command (card_of self.now) argument }
+    {
+        is_addressed(command) && argument / 0x1_0000 != u32::from(self.rca)
+    }
+
     // The answer to a sound command. One that names another card changes nothing.
     fn respond(&mut self, delays: Delays, index: u8, argument: u32) -> Answer
         requires { index < 64 }
@@ -390,13 +426,13 @@ impl Chip {
             self.new result }
     {
         let command = command_of(self.registers.kind(), self.is_app, index);
-        if is_addressed(command) && argument / 0x1_0000 != u32::from(self.rca) {
+        if self.is_foreign(command, argument) {
             return Answer::Silent;
         }
         let is_legal = self.is_legal(command);
         self.drop_erase_addresses(command);
         if is_legal {
-            self.carry_out(delays, command, index, argument)
+            self.obey(delays, command, index, argument)
         } else {
             self.refuse()
         }
@@ -431,20 +467,14 @@ impl Chip {
         }
     }
 
-    /// Whether a frame is CMD17, CMD18, CMD24 or CMD25, in tran.
-    pub fn is_transfer(&self, frame: &[u8; 6]) -> bool
-        ensures { result ≡ (is_transfer_frame (card_of self.now) (command_in frame.now) && is_in self.now.state Tran) }
+    /// Whether a frame is a command to this card, legal now, that an error may keep from being carried out.
+    pub fn can_find(&self, frame: &[u8; 6]) -> bool
+        ensures { result ≡ can_find (card_of self.now) (command_in frame.now) }
     {
         match read_command(frame) {
-            Some((index, _)) => {
+            Some((index, argument)) => {
                 let command = command_of(self.registers.kind(), self.is_app, index);
-                matches!(
-                    command,
-                    Command::ReadSingleBlock
-                        | Command::ReadMultipleBlock
-                        | Command::WriteBlock
-                        | Command::WriteMultipleBlock
-                ) && self.is_in(State::Tran)
+                may_find(command) && !self.is_foreign(command, argument) && self.is_legal(command)
             }
             None => false,
         }

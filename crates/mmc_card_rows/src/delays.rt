@@ -3,9 +3,14 @@ ghost use Rattle.std.specs.Prelude.{◌%◌, ◌+◌, ◌-◌, ◌^◌, ◌≡�
 ghost use Rattle.mmc_frame.specs.Frame.{command_in};
 ghost use Rattle.mmc_card_rows.specs.Chip.{aged, is_reset};
 
-use crate::chip::number_of;
+use crate::chip::{FIRST_ERROR, number_of};
+use crate::command::may_find;
+use mmc_card::Command;
 use mmc_frame::commands::GO_IDLE_STATE;
 use mmc_frame::{State, read_command};
+
+// The error bits that carrying a command out may raise, in units of bit 13.
+const EXECUTION_ERRORS: u32 = 0x7_61cc;
 
 /// How an SD card refuses to switch to high speed: the function that its switch status selects then.
 #[derive(Clone, Copy, Debug, PartialEq, Eq)]
@@ -50,8 +55,8 @@ pub struct Delays {
     /// Whether the card goes on by itself between two exchanges: before a command, and before a block that is written, its busy
     /// time has ended, and a read has sent one block that nobody took.
     pub goes_on: bool,
-    /// Whether a write finds its sectors protected, as in a fault alone.
-    pub finds_protection: bool,
+    /// Which error bits a command finds, as a status has them, so that it isn't carried out; 0 in all but a fault.
+    pub finds: u32,
 }
 
 // What a device says that has aged.
@@ -75,7 +80,10 @@ fn is_reset(frame: &[u8; 6]) -> bool
 }
 
 impl Delays {
-    ghost use Rattle.mmc_card_rows.specs.Chip.{KeepsWaits, delays_after, lagging_behind, moved_on};
+    ghost use Rattle.mmc_card.specs.Card.{AreAmong, Card};
+    ghost use Rattle.mmc_card.specs.ErrorBits.{execution_error_bits};
+    ghost use Rattle.mmc_card.specs.Rows.{found};
+    ghost use Rattle.mmc_card_rows.specs.Chip.{KeepsWaits, command_choice, delays_after, lagging_behind, moved_on};
 
     /// The RCA that an SD card publishes next.
     pub fn next_rca(self) -> u16
@@ -105,6 +113,19 @@ impl Delays {
         let tran = number_of(State::Tran);
         if number_of(new) == tran && number_of(old) != tran {
             self.before = old;
+        }
+    }
+
+    /// Which error bits a command finds, in units of bit 13: those of execution, if any.
+    pub fn found(self, command: Command) -> u32
+        ensures found { (card : Card) → result ≡ found (command_choice self card) command }
+        ensures known { AreAmong result execution_error_bits }
+    {
+        let bits = self.finds / FIRST_ERROR;
+        if may_find(command) && bits | EXECUTION_ERRORS == EXECUTION_ERRORS {
+            bits
+        } else {
+            0
         }
     }
 

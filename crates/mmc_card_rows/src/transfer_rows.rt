@@ -1,6 +1,6 @@
 // What the card in memory does with the commands of transfers (SD Physical Layer 6.00, sections 4.3.3 and 4.3.4;
 // JESD84-B51, sections 6.6.6 to 6.6.8), each where it is legal.
-ghost use Rattle.std.specs.Prelude.{◌&&◌, ◌||◌, ◌*◌, ◌<◌, ◌^◌, ◌≡◌, false, if◌then◌else◌};
+ghost use Rattle.std.specs.Prelude.{◌&&◌, ◌*◌, ◌<◌, ◌^◌, ◌≡◌, false, if◌then◌else◌};
 ghost use Rattle.mmc_frame.specs.Status.{bits_in};
 ghost use Rattle.mmc_frame.specs.declared.card_state.State.TheVariants.{Data, Rcv};
 ghost use Rattle.mmc_card.specs.Card.{AreAmong};
@@ -20,9 +20,9 @@ use mmc_frame::{Kind, State, Status};
 impl Chip {
     ghost use Rattle.mmc_card.specs.Made.{is_misaligned, is_read_only, sector_at};
     ghost use Rattle.mmc_card.specs.RowsTransfer.{begun, preset, read_multiple_block, read_single_block};
-    ghost use Rattle.mmc_card.specs.RowsTransfer.{set_block_count_to, set_blocklen, stop_transmission};
+    ghost use Rattle.mmc_card.specs.RowsTransfer.{set_block_count_to, set_blocklen, stop_transmission, transfer_errors};
     ghost use Rattle.mmc_card.specs.RowsTransfer.{transferred, write_block, write_multiple_block};
-    ghost use Rattle.mmc_card_rows.specs.Chip.{Answers, card_of, command_choice, errors_with};
+    ghost use Rattle.mmc_card_rows.specs.Chip.{Answers, card_of, command_choice};
 
     /// The sector that an address names.
     pub fn sector_at(&self, address: u32) -> usize
@@ -43,16 +43,16 @@ impl Chip {
         !self.registers.has_sector_addresses() && address % 512 != 0
     }
 
-    // Whether sectors are protected: found to be, or against any write.
-    fn protects(&self, finds_protection: bool, is_write: bool) -> bool
-        ensures { result ≡ (finds_protection || (is_write && is_read_only (card_of self.now).made)) }
+    // Whether sectors are protected, against any write.
+    fn protects(&self, is_write: bool) -> bool
+        ensures { result ≡ (is_write && is_read_only (card_of self.now).made) }
     {
-        finds_protection || is_write && self.is_protected
+        is_write && self.is_protected
     }
 
     // The errors of a transfer that is to begin at an address.
-    fn errors_at(&self, finds_protection: bool, is_write: bool, address: u32) -> Status
-        ensures errors { bits_in result ≡ 2 ^ 13 * errors_with finds_protection is_write (card_of self.now) address }
+    fn errors_at(&self, is_write: bool, address: u32) -> Status
+        ensures errors { bits_in result ≡ 2 ^ 13 * transfer_errors is_write (card_of self.now) address }
         ensures known { AreAmong (bits_in result) (2 ^ 13 * error_bits) }
     {
         let is_beyond = self.sector_at(address) >= self.store.size(self.part);
@@ -60,10 +60,7 @@ impl Chip {
             bits_if(Status::OUT_OF_RANGE, is_beyond)
                 + bits_if(Status::ADDRESS_ERROR, self.is_misaligned(address))
                 + bits_if(Status::BLOCK_LEN_ERROR, self.block_length != 512)
-                + bits_if(
-                    Status::WP_VIOLATION,
-                    self.protects(finds_protection, is_write),
-                ),
+                + bits_if(Status::WP_VIOLATION, self.protects(is_write)),
         )
     }
 
@@ -86,17 +83,16 @@ impl Chip {
     fn transfer(
         &mut self,
         index: u8,
-        finds_protection: bool,
         is_write: bool,
         is_single: bool,
         left: Option<u32>,
         address: u32,
     ) -> Answer
         requires { index < 64 }
-        ensures { Answers (transferred index (errors_with finds_protection is_write (card_of self.old) address) (card_of self.old)
+        ensures { Answers (transferred index (transfer_errors is_write (card_of self.old) address) (card_of self.old)
             (begun (if is_write then Rcv else Data) is_single left (card_of self.old) address)) self.new result }
     {
-        let errors = self.errors_at(finds_protection, is_write, address);
+        let errors = self.errors_at(is_write, address);
         if !errors.is_empty() {
             self.raise(errors);
             return self.respond_status(index, false);
@@ -119,63 +115,31 @@ impl Chip {
     }
 
     /// CMD17.
-    pub fn read_single_block(&mut self, delays: Delays, address: u32) -> Answer
-        ensures { Answers (read_single_block (command_choice delays (card_of self.old)) (card_of self.old) address) self.new
-            result }
+    pub fn read_single_block(&mut self, address: u32) -> Answer
+        ensures { Answers (read_single_block (card_of self.old) address) self.new result }
     {
-        self.transfer(
-            READ_SINGLE_BLOCK,
-            delays.finds_protection,
-            false,
-            true,
-            Some(1),
-            address,
-        )
+        self.transfer(READ_SINGLE_BLOCK, false, true, Some(1), address)
     }
 
     /// CMD18.
-    pub fn read_multiple_block(&mut self, delays: Delays, address: u32) -> Answer
-        ensures { Answers (read_multiple_block (command_choice delays (card_of self.old)) (card_of self.old) address)
-            self.new result }
+    pub fn read_multiple_block(&mut self, address: u32) -> Answer
+        ensures { Answers (read_multiple_block (card_of self.old) address) self.new result }
     {
-        self.transfer(
-            READ_MULTIPLE_BLOCK,
-            delays.finds_protection,
-            false,
-            false,
-            self.preset(),
-            address,
-        )
+        self.transfer(READ_MULTIPLE_BLOCK, false, false, self.preset(), address)
     }
 
     /// CMD24.
-    pub fn write_block(&mut self, delays: Delays, address: u32) -> Answer
-        ensures { Answers (write_block (command_choice delays (card_of self.old)) (card_of self.old) address) self.new
-            result }
+    pub fn write_block(&mut self, address: u32) -> Answer
+        ensures { Answers (write_block (card_of self.old) address) self.new result }
     {
-        self.transfer(
-            WRITE_BLOCK,
-            delays.finds_protection,
-            true,
-            true,
-            Some(1),
-            address,
-        )
+        self.transfer(WRITE_BLOCK, true, true, Some(1), address)
     }
 
     /// CMD25.
-    pub fn write_multiple_block(&mut self, delays: Delays, address: u32) -> Answer
-        ensures { Answers (write_multiple_block (command_choice delays (card_of self.old)) (card_of self.old) address)
-            self.new result }
+    pub fn write_multiple_block(&mut self, address: u32) -> Answer
+        ensures { Answers (write_multiple_block (card_of self.old) address) self.new result }
     {
-        self.transfer(
-            WRITE_MULTIPLE_BLOCK,
-            delays.finds_protection,
-            true,
-            false,
-            self.preset(),
-            address,
-        )
+        self.transfer(WRITE_MULTIPLE_BLOCK, true, false, self.preset(), address)
     }
 
     /// CMD12: of a write the card programs what it accepted, and of a read it may be busy. In tran, where there is nothing to

@@ -12,45 +12,49 @@ use Rattle.mmc_card.specs.declared.exchange.Exchange.TheVariants.{Busy, Command,
 use Rattle.mmc_card.specs.declared.exchange.Reply.{Reply}
 use Rattle.mmc_card.specs.declared.exchange.Want.{Want}
 use Rattle.mmc_card.specs.BusView.{BusView}
-use Rattle.mmc_card.specs.Card.{AreAmong, Card, IsBlock, IsCard, is_in, patience}
+use Rattle.mmc_card.specs.Card.{AreAmong, Both, Card, First, Held, IsBlock, IsCard, NoAddress, is_in, patience}
 use Rattle.mmc_card.specs.CardAnswer.{CardAnswer, Checked, Choice, R2, R3, Silent, left_with, raised, showing, shown, status}
-use Rattle.mmc_card.specs.Rows.{answered, command_of, reached, responded}
-use Rattle.mmc_card.specs.RowsSwitch.{switched}
+use Rattle.mmc_card.specs.Rows.{answered, command_of, found, hindered, is_foreign, is_legal, may_find, reached, responded, row}
+use Rattle.mmc_card.specs.RowsErase.{erase_held, erases, erasing, forgotten, hold_first, hold_last, is_no_range, is_trim}
+use Rattle.mmc_card.specs.RowsSwitch.{switch_row, switched}
 use Rattle.mmc_card.specs.declared.command.Command.{Command as Meaning}
 use Rattle.mmc_card.specs.declared.command.Command.TheVariants as Names
 use Rattle.mmc_frame.specs.Frame.{command_in}
-use Rattle.mmc_card.specs.ErrorBits.{card_ecc_failed, com_crc_error, command_error_bits, general_error, illegal_command, wp_violation}
+use Rattle.mmc_card.specs.ErrorBits.{block_len_error, card_ecc_failed, com_crc_error, command_error_bits, erase_param, general_error}
+use Rattle.mmc_card.specs.ErrorBits.{illegal_command}
 use Rattle.mmc_card.specs.Faults.{AreOfExecution, CommandStep, IsPatient, IsTimely, MeetsBlock, MeetsCommand, PollStep, ReadStep, Spells}
 use Rattle.mmc_card.specs.Faults.{Passes, WriteStep, at_once, has_failed, has_fallen_short, has_rested, has_run}
-use Rattle.mmc_card.specs.Faults.{IsRefused, Replies, is_switch, is_switch_frame, is_transfer, is_transfer_frame}
+use Rattle.mmc_card.specs.Faults.{IsRefused, Replies, is_switch, is_switch_frame, may_find_frame}
 use Rattle.mmc_card_rows.specs.Transfers.{is_write, is_write_frame}
 use Rattle.mmc_card.specs.declared.exchange.Reply.TheVariants as Came
 use Rattle.mmc_bus.proofs.Readers.{IsAnswerTo, responded_answer}
 use Rattle.mmc_card_sim.proofs.FlipLemmas.{FlipLaws, flipped_is_refused}
 use Rattle.mmc_card_sim.specs.FlippedReplies.{IsHeardFlipped, can_flip}
 use Rattle.mmc_card_sim.specs.declared.fault.Flips.{Flips}
-use Rattle.mmc_card.specs.RowsTransfer.{begun, errors_found, preset}
+use Rattle.mmc_card.specs.RowsTransfer.{begun, preset, transfer_errors}
 use Rattle.mmc_card.specs.Faults.MeetsCommand.{brownout as command_brownout, faithful as does_command, flip_command}
 use Rattle.mmc_card.specs.Faults.MeetsCommand.{fail_switch, find_error, lose_command, lose_reply, show_errors}
 use Rattle.mmc_card.proofs.JudgedLemmas.{replies_as_is}
 use Rattle.mmc_card.specs.Faults.PollStep.{brownout as poll_brownout, busy, fail, fail_early, faithful as does_poll, fall_short}
 use Rattle.mmc_card.specs.Faults.ReadStep.{brownout as read_brownout, faithful as does_read, spoil}
 use Rattle.mmc_card.specs.Faults.MeetsBlock.{brownout as write_brownout, faithful as does_write, lose_block, lose_status, reject}
-use Rattle.mmc_card.specs.Sectors.{Sector}
+use Rattle.mmc_card.specs.Sectors.{Change, Sector}
 use Rattle.mmc_frame.specs.declared.card_state.State.TheVariants.{Data, Prg, Rcv, Tran}
 use Rattle.mmc_card.proofs.CardAll.{poll_leaves_card, read_leaves_card}
 use Rattle.mmc_card.proofs.Passing.{block_leaves_card, card_in_time, step_leaves_card}
 use Rattle.mmc_bus.specs.declared.wire.Wire.{Wire}
 use Rattle.mmc_bus.specs.Exchanges.{Commanded, DataRead, DataWritten, Exchanged, Polled}
 use Rattle.mmc_bus.specs.Wires.{Notes, bus_view_with}
-use Rattle.mmc_card_rows.specs.Chip.{KeepsWaits, by_itself, choice_of, command_choice, finding_protection, moved_on, passed}
+use Rattle.mmc_card_rows.specs.Chip.{KeepsWaits, by_itself, choice_of, command_choice, finding, moved_on, passed}
+use Rattle.mmc_card_rows.specs.Finding.{can_find, may_find_now}
 use Rattle.mmc_card.proofs.Cards.{in_state}
 use Rattle.mmc_card_rows.proofs.ChipLemmas.{execution_held}
 use Rattle.mmc_card_rows.specs.FaultErrors.{are_of_execution}
 use Rattle.mmc_card_sim.specs.FaultyExchanges.{counted, failed, failed_unseen, fits_time, may_fail, may_fall_short}
 use Rattle.mmc_card_sim.specs.FaultyExchanges.{Commands, IsHeard, Polls, Reads, Writes, after_command, after_poll}
 use Rattle.mmc_card_sim.specs.FaultyExchanges.{after_read, after_write, fits_command, fits_poll, fits_read, fits_write}
-use Rattle.mmc_card_sim.specs.FaultyExchanges.{done_in, failing, heeded, is_answer, is_busy_fault, poll_choice, read_in, says_yes, written_out}
+use Rattle.mmc_card_sim.specs.FaultyExchanges.{done_in, failing, heeded, is_answer, is_busy_fault, poll_choice, protection, read_in}
+use Rattle.mmc_card_sim.specs.FaultyExchanges.{says_yes, written_out}
 use Rattle.mmc_card_sim.specs.Plan.{fault_at, to_come}
 use Rattle.mmc_card_sim.specs.SimView.{SimOk, SimView, card_met, met, sim_bus_view}
 use Rattle.mmc_card_sim.proofs.PlanLemmas.{spent}
@@ -158,42 +162,43 @@ timely delays card few = (
 -- A switch that fails.
 
 switch_fails : (choice : Choice) (command : Meaning) (card : Card) (index argument : ℕ) → choice.fails_switch ≡ true
-    → choice.drops_quietly ≡ false → is_switch command card argument ≡ true
+    → choice.finds ≡ 0 → choice.drops_quietly ≡ false → is_switch command card argument ≡ true
     → responded choice command card index argument ≡ failing choice.says_late card
-switch_fails choice Names.Switch card index argument fails loud h =
-    let tran = (and_true (is_in card.state Tran) (is_some (switched card argument)) h).0 in rw (tran, fails, loud) refl
-switch_fails choice Names.SendOpCond card index argument fails loud h = cc
-switch_fails choice Names.SdSendOpCond card index argument fails loud h = cc
-switch_fails choice Names.AllSendCid card index argument fails loud h = cc
-switch_fails choice Names.SendRelativeAddr card index argument fails loud h = cc
-switch_fails choice Names.SetRelativeAddr card index argument fails loud h = cc
-switch_fails choice Names.SelectCard card index argument fails loud h = cc
-switch_fails choice Names.SendIfCond card index argument fails loud h = cc
-switch_fails choice Names.SendExtCsd card index argument fails loud h = cc
-switch_fails choice Names.SendCsd card index argument fails loud h = cc
-switch_fails choice Names.StopTransmission card index argument fails loud h = cc
-switch_fails choice Names.SendStatus card index argument fails loud h = cc
-switch_fails choice Names.SetBlocklen card index argument fails loud h = cc
-switch_fails choice Names.ReadSingleBlock card index argument fails loud h = cc
-switch_fails choice Names.ReadMultipleBlock card index argument fails loud h = cc
-switch_fails choice Names.SetBlockCount card index argument fails loud h = cc
-switch_fails choice Names.WriteBlock card index argument fails loud h = cc
-switch_fails choice Names.WriteMultipleBlock card index argument fails loud h = cc
-switch_fails choice Names.EraseStart card index argument fails loud h = cc
-switch_fails choice Names.EraseEnd card index argument fails loud h = cc
-switch_fails choice Names.Erase card index argument fails loud h = cc
-switch_fails choice Names.SwitchFunc card index argument fails loud h = cc
-switch_fails choice Names.SetBusWidth card index argument fails loud h = cc
-switch_fails choice Names.SendScr card index argument fails loud h = cc
-switch_fails choice Names.AppCmd card index argument fails loud h = cc
-switch_fails choice Names.Unknown card index argument fails loud h = cc
-switch_fails choice Names.GoIdleState card index argument fails loud h = cc
+switch_fails choice Names.Switch card index argument fails none loud h =
+    let tran = (and_true (is_in card.state Tran) (is_some (switched card argument)) h).0 in rw (tran, fails, none, loud) refl
+switch_fails choice Names.SendOpCond card index argument fails none loud h = cc
+switch_fails choice Names.SdSendOpCond card index argument fails none loud h = cc
+switch_fails choice Names.AllSendCid card index argument fails none loud h = cc
+switch_fails choice Names.SendRelativeAddr card index argument fails none loud h = cc
+switch_fails choice Names.SetRelativeAddr card index argument fails none loud h = cc
+switch_fails choice Names.SelectCard card index argument fails none loud h = cc
+switch_fails choice Names.SendIfCond card index argument fails none loud h = cc
+switch_fails choice Names.SendExtCsd card index argument fails none loud h = cc
+switch_fails choice Names.SendCsd card index argument fails none loud h = cc
+switch_fails choice Names.StopTransmission card index argument fails none loud h = cc
+switch_fails choice Names.SendStatus card index argument fails none loud h = cc
+switch_fails choice Names.SetBlocklen card index argument fails none loud h = cc
+switch_fails choice Names.ReadSingleBlock card index argument fails none loud h = cc
+switch_fails choice Names.ReadMultipleBlock card index argument fails none loud h = cc
+switch_fails choice Names.SetBlockCount card index argument fails none loud h = cc
+switch_fails choice Names.WriteBlock card index argument fails none loud h = cc
+switch_fails choice Names.WriteMultipleBlock card index argument fails none loud h = cc
+switch_fails choice Names.EraseStart card index argument fails none loud h = cc
+switch_fails choice Names.EraseEnd card index argument fails none loud h = cc
+switch_fails choice Names.Erase card index argument fails none loud h = cc
+switch_fails choice Names.SwitchFunc card index argument fails none loud h = cc
+switch_fails choice Names.SetBusWidth card index argument fails none loud h = cc
+switch_fails choice Names.SendScr card index argument fails none loud h = cc
+switch_fails choice Names.AppCmd card index argument fails none loud h = cc
+switch_fails choice Names.Unknown card index argument fails none loud h = cc
+switch_fails choice Names.GoIdleState card index argument fails none loud h = cc
 
 fails_to_switch : (choice : Choice) (card : Card) (command : Option (ℕ × ℕ)) → choice.fails_switch ≡ true
-    → choice.drops_quietly ≡ false → is_switch_frame card command ≡ true → failing choice.says_late card ≡ answered choice card command
-fails_to_switch choice card (Some command) fails loud h =
-    sym (switch_fails choice (command_of card.made.kind card.app command.0) card command.0 command.1 fails loud h)
-fails_to_switch choice card None fails loud h = cc
+    → choice.finds ≡ 0 → choice.drops_quietly ≡ false → is_switch_frame card command ≡ true
+    → failing choice.says_late card ≡ answered choice card command
+fails_to_switch choice card (Some command) fails none loud h =
+    sym (switch_fails choice (command_of card.made.kind card.app command.0) card command.0 command.1 fails none loud h)
+fails_to_switch choice card None fails none loud h = cc
 
 -- APP_CMD in an R6 isn't judged
 apart_from_app : (kind : Kind) → bit_and 0x20 (judged kind 3) ≡ 0
@@ -268,60 +273,119 @@ lost_by_flips laws choice delays card (Some command) flips reply k can heard =
           (answers_said delays meaning answer (responded_answer choice meaning card command.0 command.1 k.registers)) can heard),
     )
 
+-- The response to a command that an error may keep from being carried out shows all errors, and clears them.
+
 transfer_clears : (b : Bool) (index errors : ℕ) (card after : Card) → after.errors ≡ 0
     → (cond {A = Card × CardAnswer} b (after, Checked index (status false card))
     (shown card, Checked index (status false (raised errors card)))).0.errors ≡ 0
 transfer_clears true index errors card after clear = clear
 transfer_clears false index errors card after clear = refl
 
--- the response to a read or a write shows all errors, and clears them
-clears : (choice : Choice) (command : Meaning) (card : Card) (index argument : ℕ) → is_transfer command ≡ true
-    → is_in card.state Tran ≡ true → (responded choice command card index argument).0.errors ≡ 0
-clears choice Names.ReadSingleBlock card index argument is tran =
-    let met = reached choice Names.ReadSingleBlock card in
-    let errors = errors_found false choice met argument in
-    rw tran (transfer_clears (errors == 0) 17 errors met (begun Data true (Some 1) met argument) refl)
-clears choice Names.ReadMultipleBlock card index argument is tran =
-    let met = reached choice Names.ReadMultipleBlock card in
-    let errors = errors_found false choice met argument in
-    rw tran (transfer_clears (errors == 0) 18 errors met (begun Data false (preset met) met argument) refl)
-clears choice Names.WriteBlock card index argument is tran =
-    let met = reached choice Names.WriteBlock card in
-    let errors = errors_found true choice met argument in
-    rw tran (transfer_clears (errors == 0) 24 errors met (begun Rcv true (Some 1) met argument) refl)
-clears choice Names.WriteMultipleBlock card index argument is tran =
-    let met = reached choice Names.WriteMultipleBlock card in
-    let errors = errors_found true choice met argument in
-    rw tran (transfer_clears (errors == 0) 25 errors met (begun Rcv false (preset met) met argument) refl)
-clears choice Names.GoIdleState card index argument is tran = cc
-clears choice Names.SendOpCond card index argument is tran = cc
-clears choice Names.SdSendOpCond card index argument is tran = cc
-clears choice Names.AllSendCid card index argument is tran = cc
-clears choice Names.SendRelativeAddr card index argument is tran = cc
-clears choice Names.SetRelativeAddr card index argument is tran = cc
-clears choice Names.SelectCard card index argument is tran = cc
-clears choice Names.SendIfCond card index argument is tran = cc
-clears choice Names.SendExtCsd card index argument is tran = cc
-clears choice Names.SendCsd card index argument is tran = cc
-clears choice Names.StopTransmission card index argument is tran = cc
-clears choice Names.SendStatus card index argument is tran = cc
-clears choice Names.SetBlocklen card index argument is tran = cc
-clears choice Names.SetBlockCount card index argument is tran = cc
-clears choice Names.EraseStart card index argument is tran = cc
-clears choice Names.EraseEnd card index argument is tran = cc
-clears choice Names.Erase card index argument is tran = cc
-clears choice Names.Switch card index argument is tran = cc
-clears choice Names.SwitchFunc card index argument is tran = cc
-clears choice Names.SetBusWidth card index argument is tran = cc
-clears choice Names.SendScr card index argument is tran = cc
-clears choice Names.AppCmd card index argument is tran = cc
-clears choice Names.Unknown card index argument is tran = cc
+length_clears : (b : Bool) (card : Card)
+    → (cond {A = Card × CardAnswer} b (record (shown card) { block_length = 512 }, Checked 16 (status false card))
+    (shown card, Checked 16 (status false (raised block_len_error card)))).0.errors ≡ 0
+length_clears true card = refl
+length_clears false card = refl
 
-clears_all : (choice : Choice) (card : Card) (sent : Option (ℕ × ℕ)) → is_transfer_frame card sent ≡ true
-    → is_in card.state Tran ≡ true → (answered choice card sent).0.errors ≡ 0
-clears_all choice card (Some command) is tran =
-    clears choice (command_of card.made.kind card.app command.0) card command.0 command.1 is tran
-clears_all choice card None is tran = cc
+first_clears : (index : ℕ) (card : Card) (address : ℕ) (held : Held) → (hold_first index card address held).0.errors ≡ 0
+first_clears index card address NoAddress = refl
+first_clears index card address (First first) = refl
+first_clears index card address (Both first last) = refl
+
+last_clears : (index : ℕ) (card : Card) (address : ℕ) (held : Held) → (hold_last index card address held).0.errors ≡ 0
+last_clears index card address NoAddress = refl
+last_clears index card address (First first) = refl
+last_clears index card address (Both first last) = refl
+
+range_clears : (b : Bool) (index : ℕ) (card : Card) (change : Change)
+    → (cond {A = Card × CardAnswer} b (forgotten (shown card), Checked index (status false (raised erase_param card)))
+    (erases change card, Checked index (status false card))).0.errors ≡ 0
+range_clears true index card change = refl
+range_clears false index card change = refl
+
+erase_clears : (card : Card) (argument : ℕ) (held : Held) → (erase_held card argument held).0.errors ≡ 0
+erase_clears card argument NoAddress = refl
+erase_clears card argument (First first) = refl
+erase_clears card argument (Both first last) =
+    range_clears (is_no_range card first last) 38 card (erasing card (is_trim card argument) first last)
+
+switch_clears : (late : Bool) (card : Card) (after : Option Card) → (switch_row late card after).0.errors ≡ 0
+switch_clears late card (Some after) = refl
+switch_clears late card None = refl
+
+row_clears : (choice : Choice) (command : Meaning) (card : Card) (index argument : ℕ) → may_find command ≡ true
+    → (row choice command card index argument).0.errors ≡ 0
+row_clears choice Names.SetRelativeAddr card index argument may = refl
+row_clears choice Names.SendExtCsd card index argument may = refl
+row_clears choice Names.SetBlocklen card index argument may = length_clears (argument == 512) card
+row_clears choice Names.ReadSingleBlock card index argument may =
+    let errors = transfer_errors false card argument in
+    transfer_clears (errors == 0) 17 errors card (begun Data true (Some 1) card argument) refl
+row_clears choice Names.ReadMultipleBlock card index argument may =
+    let errors = transfer_errors false card argument in
+    transfer_clears (errors == 0) 18 errors card (begun Data false (preset card) card argument) refl
+row_clears choice Names.SetBlockCount card index argument may = refl
+row_clears choice Names.WriteBlock card index argument may =
+    let errors = transfer_errors true card argument in
+    transfer_clears (errors == 0) 24 errors card (begun Rcv true (Some 1) card argument) refl
+row_clears choice Names.WriteMultipleBlock card index argument may =
+    let errors = transfer_errors true card argument in
+    transfer_clears (errors == 0) 25 errors card (begun Rcv false (preset card) card argument) refl
+row_clears choice Names.EraseStart card index argument may = first_clears index card argument card.erase
+row_clears choice Names.EraseEnd card index argument may = last_clears index card argument card.erase
+row_clears choice Names.Erase card index argument may = erase_clears card argument card.erase
+row_clears choice Names.Switch card index argument may =
+    switch_clears choice.says_late card (if choice.fails_switch then None else switched card argument)
+row_clears choice Names.SwitchFunc card index argument may = refl
+row_clears choice Names.SetBusWidth card index argument may = refl
+row_clears choice Names.SendScr card index argument may = refl
+row_clears choice Names.AppCmd card index argument may = refl
+row_clears choice Names.GoIdleState card index argument may = cc
+row_clears choice Names.SendOpCond card index argument may = cc
+row_clears choice Names.SdSendOpCond card index argument may = cc
+row_clears choice Names.AllSendCid card index argument may = cc
+row_clears choice Names.SendRelativeAddr card index argument may = cc
+row_clears choice Names.SelectCard card index argument may = cc
+row_clears choice Names.SendIfCond card index argument may = cc
+row_clears choice Names.SendCsd card index argument may = cc
+row_clears choice Names.StopTransmission card index argument may = cc
+row_clears choice Names.SendStatus card index argument may = cc
+row_clears choice Names.Unknown card index argument may = cc
+
+obeyed_clears : (none : Bool) (index bits : ℕ) (card : Card) (step : Card × CardAnswer) → step.0.errors ≡ 0
+    → (cond none step (hindered bits card index)).0.errors ≡ 0
+obeyed_clears true index bits card step clear = clear
+obeyed_clears false index bits card step clear = refl
+
+-- whether a command is carried out doesn't rest on error bits
+legal_raised : (bits : ℕ) (command : Meaning) (card : Card) → is_legal command (raised bits card) ≡ is_legal command card
+legal_raised bits Names.Erase card = refl
+legal_raised bits _ card = refl
+
+clears : (choice : Choice) (bits : ℕ) (command : Meaning) (card : Card) (index argument : ℕ)
+    → may_find_now command card argument ≡ true → (responded choice command (raised bits card) index argument).0.errors ≡ 0
+clears choice bits command card index argument finds =
+    let its_own = not (is_foreign command card argument) in
+    let parts = and_true (may_find command && its_own) (is_legal command card) finds in
+    let own = and_true (may_find command) its_own parts.0 in
+    let met = reached choice command (raised bits card) in
+    rw (is_false (is_foreign command card argument) own.1, legal_raised bits command card ∙ parts.1)
+    (obeyed_clears (found choice command == 0) index (found choice command) met (row choice command met index argument)
+    (row_clears choice command met index argument own.0))
+
+clears_all : (choice : Choice) (bits : ℕ) (card : Card) (sent : Option (ℕ × ℕ)) → can_find card sent ≡ true
+    → (answered choice (raised bits card) sent).0.errors ≡ 0
+clears_all choice bits card (Some command) finds =
+    clears choice bits (command_of card.made.kind card.app command.0) card command.0 command.1 finds
+clears_all choice bits card None finds = cc
+
+-- it is one of those
+can_may : (card : Card) (sent : Option (ℕ × ℕ)) → can_find card sent ≡ true → may_find_frame card sent ≡ true
+can_may card (Some command) finds =
+    let meaning = command_of card.made.kind card.app command.0 in
+    let its_own = not (is_foreign meaning card command.1) in
+    (and_true (may_find meaning) its_own (and_true (may_find meaning && its_own) (is_legal meaning card) finds).0).0
+can_may card None finds = cc
 
 -- what is left over alone, and errors of execution alone
 left_alone : (left : ℕ) (card : Card) → showing left 0 card ≡ left_with left card
@@ -334,31 +398,31 @@ found_alone found card = ap (λ (n : ℕ). record (raised found card) { command_
 nothing_heard : (sent : Option (ℕ × ℕ)) (answer : CardAnswer) (reply : Reply) → reply ≡ Came.Silent → IsRefused sent answer reply
 nothing_heard sent answer reply silent = subst (IsRefused sent answer) (sym silent) tt
 
--- who writes transfers
-writes_by : (command : Meaning) → is_write command ≡ true → is_transfer command ≡ true
+-- a write may find an error
+writes_by : (command : Meaning) → is_write command ≡ true → may_find command ≡ true
 writes_by Names.WriteBlock h = refl
 writes_by Names.WriteMultipleBlock h = refl
 writes_by _ h = cc
 
-writes_transfer : (card : Card) (sent : Option (ℕ × ℕ)) → is_write_frame card sent ≡ true → is_transfer_frame card sent ≡ true
-writes_transfer card (Some command) h = writes_by (command_of card.made.kind card.app command.0) h
-writes_transfer card None h = cc
+writes_find : (card : Card) (sent : Option (ℕ × ℕ)) → is_write_frame card sent ≡ true → may_find_frame card sent ≡ true
+writes_find card (Some command) h = writes_by (command_of card.made.kind card.app command.0) h
+writes_find card None h = cc
 
 -- the choice of a card whose switch fails
 abbrev failing_choice : Bool → Delays → Card → Choice
 failing_choice late delays card = record (command_choice delays card) { fails_switch = true; says_late = late }
 
 module _ (plan : List Planned) (old new : Card) (delays : Delays) (soon : delays.ready ≤ patience)
-    (bare : delays.finds_protection ≡ false) (k : IsCard old) (laws : FlipLaws) (faults later : ℕ) (before after : Wire) where
+    (bare : delays.finds ≡ 0) (k : IsCard old) (laws : FlipLaws) (faults later : ℕ) (before after : Wire) where
   -- it finds nothing
   finds_none : (command_choice delays old).finds ≡ 0
-  finds_none = ap (λ b. if b then wp_violation else 0) bare
+  finds_none = ap (λ n. n / 2 ^ 13) bare
 
   failed_switch : (late : Bool) (frame : List ℕ) (reply : Reply) → later ≡ faults + 1
       → is_switch_frame old (command_in frame) ≡ true → new ≡ (failing late old).0 → Spells (failing late old).1 reply
       → MeetsCommand (kept_with plan old faults before) frame reply (kept_with plan new later after)
   failed_switch late frame reply one fits card heard =
-      let is = fails_to_switch (failing_choice late delays old) old (command_in frame) refl refl fits in
+      let is = fails_to_switch (failing_choice late delays old) old (command_in frame) refl finds_none refl fits in
       fail_switch (failing_choice late delays old) refl fits one (card ∙ ap (λ (x : Card × CardAnswer). x.0) is)
       (replies_as_is old _ reply (subst (λ (x : Card × CardAnswer). Spells x.1 reply) is heard))
 
@@ -389,28 +453,32 @@ module _ (plan : List Planned) (old new : Card) (delays : Delays) (soon : delays
   command_fault (Some Is.FailSwitchLate) frame reply one fits card heard =
       failed_switch true frame reply one fits card heard
   command_fault (Some Is.LoseFailedSwitch) frame reply one fits card heard =
-      let is = fails_to_switch (failing_choice false delays old) old (command_in frame) refl refl fits in
+      let is = fails_to_switch (failing_choice false delays old) old (command_in frame) refl finds_none refl fits in
       lose_reply (failing_choice false delays old) (timely delays old soon) one
       (card ∙ ap (λ (x : Card × CardAnswer). x.0) is)
       (λ none. cc (ap (λ (x : Card × CardAnswer). x.1) is, none)) (nothing_heard _ _ reply heard)
   command_fault (Some Is.FindProtection) frame reply one fits card heard =
-      find_error (command_choice (finding_protection delays) old) (refl, λ none. cc)
-      (timely (finding_protection delays) old soon).0
-      (writes_transfer old (command_in frame) (and_true (is_write_frame old (command_in frame)) (is_in old.state Tran) fits).0) one card
-      (_, said_is old.made.kind (finding_protection delays) _, heard)
+      find_error (command_choice (finding protection delays) old) (refl, λ none. cc)
+      (timely (finding protection delays) old soon).0
+      (writes_find old (command_in frame) (and_true (is_write_frame old (command_in frame)) (is_in old.state Tran) fits).0) one card
+      (_, said_is old.made.kind (finding protection delays) _, heard)
+  command_fault (Some (Is.FindError bits)) frame reply one fits card heard =
+      let parts = and_true (are_of_execution bits) (can_find old (command_in frame)) fits in
+      find_error (command_choice (finding bits delays) old) (execution_held bits parts.0)
+      (timely (finding bits delays) old soon).0 (can_may old (command_in frame) parts.1) one card
+      (_, said_is old.made.kind (finding bits delays) _, heard)
   command_fault (Some (Is.LeaveOver ComCrc)) frame reply one fits card heard =
       left_over com_crc_error frame reply refl (λ none. cc) one card heard
   command_fault (Some (Is.LeaveOver Illegal)) frame reply one fits card heard =
       left_over illegal_command frame reply refl (λ none. cc) one card heard
   command_fault (Some (Is.ShowError bits)) frame reply one fits card heard =
-      let parts = and_true (are_of_execution bits) (is_transfer_frame old (command_in frame) && is_in old.state Tran) fits in
-      let there = and_true (is_transfer_frame old (command_in frame)) (is_in old.state Tran) parts.1 in
+      let parts = and_true (are_of_execution bits) (can_find old (command_in frame)) fits in
       let of = execution_held bits parts.0 in
       let found = bits / 2 ^ 13 in
       let choice = command_choice delays old in
       let e = sym (found_alone found old) in
       show_errors choice 0 found refl of.0 (λ none. of.1 (omega (arith, none)))
-      (inr (ap (λ (c : Card). c.errors) card ∙ clears_all choice (raised found old) (command_in frame) there.0 there.1))
+      (inr (ap (λ (c : Card). c.errors) card ∙ clears_all choice found old (command_in frame) parts.1))
       (timely delays old soon, refl, finds_none) one
       (card ∙ ap (λ (c : Card). (answered choice c (command_in frame)).0) e)
       (subst (λ (c : Card). Replies old (answered choice c (command_in frame)).1 reply) e (_, said_is old.made.kind delays _, heard))
@@ -480,6 +548,7 @@ module _ (plan : List Planned) (old new : Card) (delays : Delays) (faults later 
   read_fault (Some (Is.FailWith outcome bits)) size got block one fits card answer = cc
   read_fault (Some Is.LoseFailedSwitch) size got block one fits card answer = cc
   read_fault (Some Is.FindProtection) size got block one fits card answer = cc
+  read_fault (Some (Is.FindError bits)) size got block one fits card answer = cc
   read_fault (Some Is.LoseBlock) size got block one fits card answer = cc
   read_fault (Some Is.RejectBusy) size got block one fits card answer = cc
   read_fault (Some (Is.FailEarly outcome bits)) size got block one fits card answer = cc
@@ -542,6 +611,7 @@ module _ (plan : List Planned) (old new : Card) (delays : Delays) (faults later 
   write_fault (Some (Is.FailWith outcome bits)) block got one fits card answer = cc
   write_fault (Some Is.LoseFailedSwitch) block got one fits card answer = cc
   write_fault (Some Is.FindProtection) block got one fits card answer = cc
+  write_fault (Some (Is.FindError bits)) block got one fits card answer = cc
   write_fault (Some (Is.FailEarly outcome bits)) block got one fits card answer = cc
   write_fault (Some (Is.FailUnseen outcome bits)) block got one fits card answer = cc
 
@@ -623,6 +693,7 @@ module _ (plan : List Planned) (old new : Card) (delays : Delays) (soon : delays
   poll_fault (Some (Is.LoseStatus outcome)) said one fits card is = cc
   poll_fault (Some Is.LoseFailedSwitch) said one fits card is = cc
   poll_fault (Some Is.FindProtection) said one fits card is = cc
+  poll_fault (Some (Is.FindError bits)) said one fits card is = cc
   poll_fault (Some Is.LoseBlock) said one fits card is = cc
   poll_fault (Some Is.RejectBusy) said one fits card is = cc
   poll_fault (Some (Is.FailUnseen outcome bits)) said one fits card is = cc
@@ -685,7 +756,7 @@ pub waits_on : (old noted new : Delays) → KeepsWaits old noted → KeepsWaits 
 waits_on old noted new first second = record {
   ready = second.ready ∙ first.ready;
   busy = second.busy ∙ first.busy;
-  finds_protection = second.finds_protection ∙ first.finds_protection;
+  finds = second.finds ∙ first.finds;
 }
 
 -- the card in memory after an exchange
@@ -697,7 +768,7 @@ still_ok old new fault fell exchange ok waits plan is unplanned counts notes car
   is_card = card;
   soon_ready = rw waits.ready ok.soon_ready;
   soon_rested = rw waits.busy ok.soon_rested;
-  unprotected = waits.finds_protection ∙ ok.unprotected;
+  finds_none = waits.finds ∙ ok.finds_none;
   few = few_more fell old.faults new.faults old.wire.exchanges new.wire.exchanges ok.few ok.bounded
       (λ did last. fell_some fell fault old.plan old.wire.exchanges is unplanned ok.never did last) counts
       notes.exchanges;
@@ -764,7 +835,7 @@ module _ (sim : SimView) (ok : SimOk sim) (fault : Option Fault) (delays : Delay
       let now = kept_with sim.plan new later after in
       let meets : MeetsCommand (sim_bus_view (met fault sim)) frame reply now =
       subst (λ (m : BusView). MeetsCommand m frame reply now) met_is
-      (command_met sim.plan met_card new delays (rw waits.ready ok.soon_ready) (waits.finds_protection ∙ ok.unprotected) met_is_card laws
+      (command_met sim.plan met_card new delays (rw waits.ready ok.soon_ready) (waits.finds ∙ ok.finds_none) met_is_card laws
       (counted before sim.faults) later sim.wire after fault frame reply fell
       (counted_then (λ fits. does.fell_is ∙ no_command_fits fault sim.card delays met_card frame fits)) does) in
       let step : CommandStep (sim_bus_view sim) frame reply now =

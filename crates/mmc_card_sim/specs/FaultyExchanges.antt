@@ -1,6 +1,6 @@
 -- What the card in memory does in an exchange for which a fault may be planned: the fault falls where it fits, and
 -- otherwise the exchange is a faithful step.
-use Rattle.std.specs.Prelude.{◌&&◌, ◌+◌, ◌/◌, ◌^◌, ◌||◌, ◌≡◌, Bool, List, Option, Some, false}
+use Rattle.std.specs.Prelude.{◌&&◌, ◌*◌, ◌+◌, ◌/◌, ◌^◌, ◌||◌, ◌≡◌, Bool, List, Option, Some, false}
 use Rattle.std.specs.Prelude.{None, if◌then◌else◌, length, nat_le, nat_lt, not, true, ℕ}
 use Rattle.mmc_frame.specs.Frame.{command_in}
 use Rattle.mmc_frame.specs.declared.card_state.State.TheVariants.{Prg, Rcv, Tran}
@@ -15,15 +15,16 @@ use Rattle.mmc_card.specs.Blocks.{accepted, can_accept, can_send, offered, polle
 use Rattle.mmc_card.specs.Blocks.{fallen_early, fallen_short, next_written, waited}
 use Rattle.mmc_card.specs.Card.{Card, is_in, patience, stored}
 use Rattle.mmc_card.specs.CardAnswer.{CardAnswer, Choice, Silent, garbled, left_with, raised, reset}
-use Rattle.mmc_card.specs.ErrorBits.{card_ecc_failed, general_error}
-use Rattle.mmc_card.specs.Faults.{Spells, is_switch_frame, is_transfer_frame}
+use Rattle.mmc_card.specs.ErrorBits.{card_ecc_failed, general_error, wp_violation}
+use Rattle.mmc_card.specs.Faults.{Spells, is_switch_frame}
 use Rattle.mmc_card.specs.Rows.{answered, reached}
 use Rattle.mmc_card.specs.RowsSwitch.{switch_row}
 use Rattle.mmc_card.specs.declared.command.Command.TheVariants.{Switch}
 use Rattle.mmc_card_rows.specs.Answer.{said_as}
 use Rattle.mmc_card_sim.specs.FlippedReplies.{IsHeardFlipped, can_flip, is_flip}
 use Rattle.mmc_card_rows.specs.FaultErrors.{are_of_execution, error_bit}
-use Rattle.mmc_card_rows.specs.Chip.{Sends, choice_of, command_choice, finding_protection, passed}
+use Rattle.mmc_card_rows.specs.Chip.{Sends, choice_of, command_choice, finding, passed}
+use Rattle.mmc_card_rows.specs.Finding.{can_find}
 use Rattle.mmc_card_rows.specs.Store.{lands_by}
 use Rattle.mmc_card_rows.specs.Transfers.{is_write_frame}
 use Rattle.mmc_card_rows.specs.declared.delays.Delays.{Delays}
@@ -32,7 +33,7 @@ use Rattle.mmc_card_sim.specs.declared.fault.Fault.{Fault}
 use Rattle.mmc_card_sim.specs.declared.fault.Fault.TheVariants.{BadBlock, Brownout, Busy, Fail, FailWith, FlipCommand}
 use Rattle.mmc_card_sim.specs.declared.fault.Fault.TheVariants.{FailSwitch, FailSwitchLate, FlipReply, LeaveOver}
 use Rattle.mmc_card_sim.specs.declared.fault.Fault.TheVariants.{LoseCommand, LoseReply, LoseStatus, NoBlock, ReadError}
-use Rattle.mmc_card_sim.specs.declared.fault.Fault.TheVariants.{FailEarly, FailUnseen, FindProtection, LoseBlock, LoseFailedSwitch}
+use Rattle.mmc_card_sim.specs.declared.fault.Fault.TheVariants.{FailEarly, FailUnseen, FindError, FindProtection, LoseBlock, LoseFailedSwitch}
 use Rattle.mmc_card_sim.specs.declared.fault.Fault.TheVariants.{Reject, RejectAll, RejectBusy, ShowError}
 use Rattle.mmc_card_rows.specs.declared.fault.Outcome.TheVariants.{New}
 
@@ -55,11 +56,20 @@ heeded_with error delays card frame = heeded delays (left_with (error_bit error)
 abbrev pub heeded_raised : ℕ → Delays → Card → List ℕ → Card × CardAnswer
 heeded_raised bits delays card frame = heeded delays (raised (bits / 2 ^ 13) card) frame
 
+-- of the card whose command finds these errors, by their places in a status
+abbrev pub heeded_finding : ℕ → Delays → Card → List ℕ → Card × CardAnswer
+heeded_finding bits delays card frame = heeded (finding bits delays) card frame
+
+-- WP_VIOLATION, of a write that finds its sectors protected
+abbrev pub protection : ℕ
+protection = 2 ^ 13 * wp_violation
+
 -- what the card does with this frame where this fault falls
 abbrev pub done_in : Option Fault → Delays → Card → List ℕ → Card × CardAnswer
 done_in (Some FailSwitch) delays card frame = failing false card
 done_in (Some FailSwitchLate) delays card frame = failing true card
-done_in (Some FindProtection) delays card frame = heeded (finding_protection delays) card frame
+done_in (Some FindProtection) delays card frame = heeded_finding protection delays card frame
+done_in (Some (FindError bits)) delays card frame = heeded_finding bits delays card frame
 done_in (Some (LeaveOver error)) delays card frame = heeded_with error delays card frame
 done_in (Some (ShowError bits)) delays card frame = heeded_raised bits delays card frame
 done_in _ delays card frame = heeded delays card frame
@@ -79,8 +89,8 @@ fits_command (Some FailSwitchLate) delays card frame = is_switch_frame card (com
 fits_command (Some LoseFailedSwitch) delays card frame = is_switch_frame card (command_in frame)
 fits_command (Some FindProtection) delays card frame = is_write_frame card (command_in frame) && is_in card.state Tran
 fits_command (Some (LeaveOver error)) delays card frame = true
-fits_command (Some (ShowError bits)) delays card frame =
-    are_of_execution bits && (is_transfer_frame card (command_in frame) && is_in card.state Tran)
+fits_command (Some (ShowError bits)) delays card frame = are_of_execution bits && can_find card (command_in frame)
+fits_command (Some (FindError bits)) delays card frame = are_of_execution bits && can_find card (command_in frame)
 fits_command (Some (Brownout outcome)) delays card frame = true
 fits_command _ delays card frame = false
 
@@ -92,7 +102,8 @@ after_command (Some (FlipReply flips)) delays card frame = (heeded delays card f
 after_command (Some FailSwitch) delays card frame = (failing false card).0
 after_command (Some FailSwitchLate) delays card frame = (failing true card).0
 after_command (Some LoseFailedSwitch) delays card frame = (failing false card).0
-after_command (Some FindProtection) delays card frame = (heeded (finding_protection delays) card frame).0
+after_command (Some FindProtection) delays card frame = (heeded_finding protection delays card frame).0
+after_command (Some (FindError bits)) delays card frame = (heeded_finding bits delays card frame).0
 after_command (Some (LeaveOver error)) delays card frame = (heeded_with error delays card frame).0
 after_command (Some (ShowError bits)) delays card frame = (heeded_raised bits delays card frame).0
 after_command (Some (Brownout outcome)) delays card frame = reset (lands_by outcome) delays.keeps_length card
@@ -104,6 +115,7 @@ IsHeard (Some (FlipReply flips)) answer reply = IsHeardFlipped flips answer repl
 IsHeard (Some FailSwitch) answer reply = Spells answer reply
 IsHeard (Some FailSwitchLate) answer reply = Spells answer reply
 IsHeard (Some FindProtection) answer reply = Spells answer reply
+IsHeard (Some (FindError bits)) answer reply = Spells answer reply
 IsHeard (Some (LeaveOver error)) answer reply = Spells answer reply
 IsHeard (Some (ShowError bits)) answer reply = Spells answer reply
 IsHeard _ answer reply = reply ≡ Came.Silent

@@ -1,6 +1,6 @@
 -- The views of a card in memory that follows a plan of faults: what contracts see of it, and what they see of it as a
 -- bus, which is always kept, and on which no more faults may fall than are planned for exchanges to come.
-use Rattle.std.specs.Prelude.{◌-◌, ◌/◌, ◌^◌, ◌≡◌, ◌≤◌, List, None, Option, Some, false, true, unwrap_or, ℕ}
+use Rattle.std.specs.Prelude.{◌-◌, ◌/◌, ◌^◌, ◌≡◌, ◌≤◌, List, None, Option, Some, true, unwrap_or, ℕ}
 use Rattle.mmc_frame.specs.declared.card_state.State.TheVariants.{Idle}
 use Rattle.mmc_bus.specs.declared.wire.Wire.{Wire}
 use Rattle.mmc_bus.specs.Wires.{bus_view_with}
@@ -54,7 +54,7 @@ first_delays spec =
       shows_app_cmd = spec.shows_app_cmd;
       life_time = first_life_time spec.ages spec.registers.kind;
       goes_on = spec.goes_on;
-      finds_protection = false;
+      finds = 0;
     }
 
 -- As the next command, or the next block that is written, meets it, for which this fault is planned: a card that goes on by itself
@@ -70,13 +70,13 @@ met fault sim =
       faults = counted (fits_time fault sim.card) sim.faults;
     }
 
--- It is a card, whose own delays are fifteen exchanges at most, and which finds no sectors protected of its own; no more faults have fallen than exchanges were made, and none
--- is planned for the number at which their count stays.
+-- It is a card, whose own delays are fifteen exchanges at most, and of which no command finds an error of its own; no more faults
+-- have fallen than exchanges were made, and none is planned for the number at which their count stays.
 pub record SimOk (sim : SimView) : Type 0 where
   pub is_card : IsCard sim.card
   pub soon_ready : sim.delays.ready ≤ patience
   pub soon_rested : sim.delays.busy ≤ patience
-  pub unprotected : sim.delays.finds_protection ≡ false
+  pub finds_none : sim.delays.finds ≡ 0
   pub few : sim.faults ≤ sim.wire.exchanges
   pub bounded : sim.wire.exchanges ≤ 2 ^ 64 - 1
   pub never : fault_at sim.plan (2 ^ 64 - 1) ≡ None

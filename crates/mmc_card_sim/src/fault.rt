@@ -33,9 +33,12 @@ pub enum Fault {
     FindProtection,
     /// The card has this error of an earlier command left over, which the command's response shows if it has a status.
     LeaveOver(CommandError),
-    /// CMD17, CMD18, CMD24 or CMD25 in tran is carried out, and its response shows these error bits besides, by their places
-    /// in a status. Bits that no execution raises fit no exchange.
+    /// A command with an R1, but CMD7, CMD12 and CMD13, is carried out, and its response shows these error bits besides, by
+    /// their places in a status. Bits that no execution raises fit no exchange.
     ShowError(u32),
+    /// A command with an R1, but CMD7, CMD12 and CMD13, isn't carried out, and its response shows these error bits, by their
+    /// places in a status. Bits that no execution raises fit no exchange.
+    FindError(u32),
     /// A block that is read comes with a bad check.
     BadBlock,
     /// A block that is read doesn't come.

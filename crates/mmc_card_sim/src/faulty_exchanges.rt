@@ -2,12 +2,12 @@
 // its exchange; otherwise the exchange is a faithful step. Each answers beside its result whether the fault fell.
 ghost use Rattle.std.specs.Prelude.{◌/◌, ◌^◌, ◌≡◌, Some, length, true};
 ghost use Rattle.mmc_card_rows.specs.FaultErrors.{are_of_execution};
-ghost use Rattle.mmc_card_sim.specs.declared.fault.Fault.TheVariants.{FindProtection, FlipReply, LoseReply};
+ghost use Rattle.mmc_card_sim.specs.declared.fault.Fault.TheVariants.{FindError, FindProtection, FlipReply, LoseReply};
 ghost use Rattle.mmc_card.specs.CardAnswer.{raised};
 ghost use Rattle.mmc_card_sim.specs.FaultyExchanges.{Commands, Polls, Reads, Spoils, Writes, can_fail_early, can_fail_with};
 ghost use Rattle.mmc_card_sim.specs.FaultyExchanges.{after_time, failed, fits_time, heeded, is_slow_at};
 ghost use Rattle.mmc_card_rows.specs.Store.{lands_by};
-ghost use Rattle.mmc_card_rows.specs.Chip.{Answers, card_of};
+ghost use Rattle.mmc_card_rows.specs.Chip.{Answers, card_of, finding};
 
 use crate::fault::{Fault, Flips};
 use crate::flip::{can_flip, heard_flipped, is_flip};
@@ -17,6 +17,9 @@ use mmc_frame::State;
 
 // The error bits that carrying a command out may raise.
 const EXECUTION_ERRORS: u32 = 0xec39_8000;
+
+// WP_VIOLATION in a status.
+const PROTECTION: u32 = 0x0400_0000;
 
 /// Whether these are error bits that carrying a command out may raise, one at least (SD Physical Layer 6.00, section 4.10.1;
 /// JESD84-B51, section 6.13).
@@ -56,6 +59,17 @@ fn command_flipped(chip: &mut Chip, delays: Delays, frame: &[u8; 6], flips: Flip
     }
 }
 
+// The answer to a command that finds these errors, by their places in a status.
+fn heed_finding(chip: &mut Chip, delays: Delays, frame: &[u8; 6], bits: u32) -> Answer
+    ensures { Answers (heeded (finding bits delays) (card_of chip.old) frame.now) chip.new result }
+{
+    let finding = Delays {
+        finds: bits,
+        ..delays
+    };
+    heed(chip, finding, frame)
+}
+
 // The response to a command, of which a write finds its sectors protected.
 fn command_protected(chip: &mut Chip, delays: Delays, frame: &[u8; 6]) -> (Reply, bool)
     ensures { Commands (Some FindProtection) delays (card_of chip.old) frame.now result.0 result.1
@@ -64,11 +78,20 @@ fn command_protected(chip: &mut Chip, delays: Delays, frame: &[u8; 6]) -> (Reply
     if !chip.is_write(frame) {
         return (heed(chip, delays, frame).spelled(), false);
     }
-    let finding = Delays {
-        finds_protection: true,
-        ..delays
-    };
-    (heed(chip, finding, frame).spelled(), true)
+    let answer = heed_finding(chip, delays, frame, PROTECTION);
+    (answer.spelled(), true)
+}
+
+// The response to a command that finds these errors, if one may keep it from being carried out.
+fn command_hindered(chip: &mut Chip, delays: Delays, frame: &[u8; 6], bits: u32) -> (Reply, bool)
+    ensures { Commands (Some (FindError bits)) delays (card_of chip.old) frame.now result.0 result.1
+        (card_of chip.new) }
+{
+    if !is_of_execution(bits) || !chip.can_find(frame) {
+        return (heed(chip, delays, frame).spelled(), false);
+    }
+    let answer = heed_finding(chip, delays, frame, bits);
+    (answer.spelled(), true)
 }
 
 /// The response to a command.
@@ -100,11 +123,12 @@ pub fn faulty_command(
             (Reply::Silent, true)
         }
         Some(Fault::FindProtection) => command_protected(chip, delays, frame),
+        Some(Fault::FindError(bits)) => command_hindered(chip, delays, frame, bits),
         Some(Fault::LeaveOver(error)) => {
             chip.leave_over(error);
             (heed(chip, delays, frame).spelled(), true)
         }
-        Some(Fault::ShowError(bits)) if is_of_execution(bits) && chip.is_transfer(frame) => {
+        Some(Fault::ShowError(bits)) if is_of_execution(bits) && chip.can_find(frame) => {
             chip.raise_bits(bits);
             (heed(chip, delays, frame).spelled(), true)
         }

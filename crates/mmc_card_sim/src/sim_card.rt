@@ -43,7 +43,7 @@ fn first_delays(spec: &CardSpec) -> Delays
         shows_app_cmd: spec.shows_app_cmd,
         life_time: registers.first_life_time(spec.ages),
         goes_on: spec.goes_on,
-        finds_protection: false,
+        finds: 0,
     }
 }
 
@@ -118,7 +118,7 @@ impl SimCard {
         requires card { IsCard (card_of chip) }
         requires soon_ready { delays.ready ≤ patience }
         requires soon_rested { delays.busy ≤ patience }
-        requires unprotected { delays.finds_protection ≡ false }
+        requires finds_none { delays.finds ≡ 0 }
         ensures card { result.card ≡ card_of chip }
         ensures delays { result.delays ≡ delays }
         ensures unused { IsUnused (sim_bus_view result) }

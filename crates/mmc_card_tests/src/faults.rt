@@ -183,6 +183,62 @@ fn finds_sectors_protected(rt: HostRuntime) -> Result<(), Fail> {
     Ok(())
 }
 
+// A command that finds an error isn't carried out, and its response says why: no count is preset, and the read goes on.
+#[test]
+fn finds_an_error(rt: HostRuntime) -> Result<(), Fail> {
+    let mut card = faulty(rt.alloc(), 0, Fault::FindError(0x2008_0000))?;
+    expect_r1(&rt, &mut card, 23, 1, 0x2008_0900);
+    expect_r1(&rt, &mut card, 18, 0, 0x900);
+    expect_sector(&rt, &mut card, 0);
+    expect_status(&rt, &mut card, 0xb00);
+    assert_eq!(rt; card.faults(), 1);
+    Ok(())
+}
+
+// Nothing comes of such a command: no application command follows CMD55, and an address that is held stays so.
+#[test]
+fn comes_to_nothing_with_an_error(rt: HostRuntime) -> Result<(), Fail> {
+    let mut card = faulty(rt.alloc(), 0, Fault::FindError(0x0008_0000))?;
+    expect_r1(&rt, &mut card, 55, RCA, 0x0008_0900);
+    expect_silence(&rt, &mut card, encode(51, 0));
+    plan_after(&mut card, 1, Fault::FindError(0x0008_0000))?;
+    expect_r1(&rt, &mut card, 32, 0, 0x0040_0900);
+    expect_r1(&rt, &mut card, 33, 0, 0x0008_0900);
+    expect_r1(&rt, &mut card, 33, 0, 0x900);
+    plan_after(&mut card, 0, Fault::FindError(0x8000_0000))?;
+    expect_r1(&rt, &mut card, 16, 512, 0x8000_2900);
+    expect_r1(&rt, &mut card, 38, 0, 0x1000_0900);
+    assert_eq!(rt; card.faults(), 3);
+    Ok(())
+}
+
+// So does nothing of a switch of an eMMC device, which isn't busy then.
+#[test]
+fn writes_no_byte_with_an_error(rt: HostRuntime) -> Result<(), Fail> {
+    let mut card = selected_mmc(rt.alloc(), emmc())?;
+    plan_after(&mut card, 0, Fault::FindError(0x0400_0000))?;
+    expect_r1(&rt, &mut card, 6, 0x03b7_0200, 0x0400_0900);
+    expect_polls(&rt, &mut card, 0);
+    expect_status(&rt, &mut card, 0x900);
+    expect_r1(&rt, &mut card, 17, 0, 0x900);
+    expect_sector(&rt, &mut card, 0xff);
+    Ok(())
+}
+
+// A command that is carried out may show an error too. CMD13, CMD12 and CMD7 neither find one nor show one so.
+#[test]
+fn shows_an_error_besides(rt: HostRuntime) -> Result<(), Fail> {
+    let mut card = faulty(rt.alloc(), 0, Fault::ShowError(0x0008_0000))?;
+    expect_r1(&rt, &mut card, 55, RCA, 0x0008_0920);
+    expect_r1(&rt, &mut card, 51, 0, 0x920);
+    plan_after(&mut card, 0, Fault::ShowError(0x0008_0000))?;
+    expect_status(&rt, &mut card, 0xb00);
+    plan_after(&mut card, 0, Fault::FindError(0x0008_0000))?;
+    expect_r1(&rt, &mut card, 12, 0, 0xb00);
+    assert_eq!(rt; card.faults(), 1);
+    Ok(())
+}
+
 // A switch may fail while its response is lost: nothing after it says so.
 #[test]
 fn loses_what_a_failed_switch_says(rt: HostRuntime) -> Result<(), Fail> {

@@ -11,7 +11,8 @@ use Rattle.mmc_card.specs.Faults.{NoFault}
 use Rattle.mmc_card.specs.Laws.{erased_by, erased_by_command, is_frame_of_run, is_of_run}
 use Rattle.mmc_card.specs.Rows.{command_of}
 use Rattle.mmc_frame.specs.declared.card_state.State.TheVariants.{Tran}
-use Rattle.mmc_bus.specs.CommandLaws.{Does, Responded}
+use Rattle.mmc_bus.proofs.FoundLemmas.{none_at_all}
+use Rattle.mmc_bus.specs.CommandLaws.{Does, Responded, ShowsNoError}
 use Rattle.mmc_bus.specs.Heard.{response_heard, response_of}
 use Rattle.mmc_bus.specs.Learned.{Asked}
 use Rattle.mmc_bus.specs.declared.host.Unheard.{Unheard}
@@ -61,7 +62,7 @@ abbrev pub FirstLaw : Kind → Type 0
 FirstLaw kind =
     (old new : BusView) (address : ℕ) (heard : Result ℕ Unheard) → Responded (first_index kind) old address heard new
     → old.card.made.kind ≡ kind → old.card.erase ≡ NoAddress
-    → Does (old.card.state ≡ Tran) Shows (record (shown old.card) { erase = First address }) old heard new
+    → Does ShowsNoError (old.card.state ≡ Tran) Shows (record (shown old.card) { erase = First address }) old heard new
 
 pub first_law : FirstLaw Sd → FirstLaw Mmc → (kind : Kind) → FirstLaw kind
 first_law sd mmc Sd = sd
@@ -71,7 +72,7 @@ abbrev pub LastLaw : Kind → Type 0
 LastLaw kind =
     (old new : BusView) (first address : ℕ) (heard : Result ℕ Unheard)
     → Responded (last_index kind) old address heard new → old.card.made.kind ≡ kind → old.card.erase ≡ First first
-    → Does (old.card.state ≡ Tran) Shows (record (shown old.card) { erase = Both first address }) old
+    → Does ShowsNoError (old.card.state ≡ Tran) Shows (record (shown old.card) { erase = Both first address }) old
     heard new
 
 pub last_law : LastLaw Sd → LastLaw Mmc → (kind : Kind) → LastLaw kind
@@ -85,9 +86,9 @@ shows_no_error kind held card errors k can told shows = (errors kind told card k
 
 -- A command that was judged, from what it does.
 module _ (kind : Kind) (after : Card) (old : BusView) (heard : Result ℕ Unheard) (new : BusView)
-    (does : Does (old.card.state ≡ Tran) Shows after old heard new) where
-  pub done_where_answered : (told : ℕ) → heard ≡ Ok told → new.card ≡ after
-  done_where_answered told is = (does.sound told is).2
+    (does : Does ShowsNoError (old.card.state ≡ Tran) Shows after old heard new) where
+  pub done_where_answered : (told : ℕ) → heard ≡ Ok told → error_bits kind told ≡ 0 → new.card ≡ after
+  done_where_answered told is none = (does.sound told is (none_at_all kind told none)).1
 
   pub done_where_it_can : {Judged : Type 0} (held : Held) → ErrorsLaw → IsCard old.card
       → ((told : ℕ) → heard ≡ Ok told → error_bits kind told ≡ 0 → Judged) → NoFault old new → CanHold kind held old.card

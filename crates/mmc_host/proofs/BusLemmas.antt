@@ -68,8 +68,8 @@ moved_meeting old new l m a b frame reply (slow_status choice behind late status
     slow_status choice behind late status count card spells
 moved_meeting old new l m a b frame reply (fail_switch choice fails switch count card spells) =
     fail_switch choice fails switch count card spells
-moved_meeting old new l m a b frame reply (find_error choice finds late transfers count card spells) =
-    find_error choice finds late transfers count card spells
+moved_meeting old new l m a b frame reply (find_error choice finds late may count card spells) =
+    find_error choice finds late may count card spells
 moved_meeting old new l m a b frame reply (outlive choice bits argument are fine idle count card silent) =
     outlive choice bits argument are fine idle count card silent
 moved_meeting old new l m a b frame reply (show_errors choice left found among errors some cleared fine count card spells) =

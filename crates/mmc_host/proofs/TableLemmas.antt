@@ -9,14 +9,16 @@ use Rattle.mmc_frame.specs.declared.kind.Kind.{Kind}
 use Rattle.mmc_frame.specs.declared.kind.Kind.TheVariants.{Mmc, Sd}
 use Rattle.mmc_card.proofs.Conditions.{by_cond, first_by_cond}
 use Rattle.mmc_card.proofs.Responses.{after_response}
+use Rattle.mmc_bus.proofs.FoundLemmas.{found_some}
 use Rattle.mmc_card.specs.Card.{Both, Card, First, Held, NoAddress, is_in}
 use Rattle.mmc_card.specs.CardAnswer.{CardAnswer, Choice, Silent}
-use Rattle.mmc_card.specs.Rows.{command_of, is_foreign, is_legal, leaves_erase, reached, responded, row}
+use Rattle.mmc_card.specs.Rows.{command_of, found, hindered, is_foreign, is_legal, leaves_erase, may_find, obeyed, reached}
+use Rattle.mmc_card.specs.Rows.{responded, row}
 use Rattle.mmc_card.specs.RowsErase.{erase_held, hold_first, hold_last, holds_address, is_no_range}
 use Rattle.mmc_card.specs.RowsIdentify.{is_served, may_lag}
 use Rattle.mmc_card.specs.RowsSwitch.{ext_csd_now, is_read, is_to_speed_up, refusal, reread, switch_row}
 use Rattle.mmc_card.specs.RowsSwitch.{switch_source, switched}
-use Rattle.mmc_card.specs.RowsTransfer.{begun, preset, sending, sending_from, transfer_errors, transferred, errors_found}
+use Rattle.mmc_card.specs.RowsTransfer.{begun, preset, sending, sending_from, transfer_errors, transferred}
 use Rattle.mmc_card.specs.declared.command.Command.{Command}
 use Rattle.mmc_card.specs.declared.command.Command.TheVariants.{SdSendOpCond, SendScr, SetBusWidth, AllSendCid, AppCmd}
 use Rattle.mmc_card.specs.declared.command.Command.TheVariants.{Erase, EraseEnd, EraseStart, GoIdleState}
@@ -86,13 +88,13 @@ busy_row choice SendStatus card index argument =
 busy_row choice SetBlocklen card index argument =
     first_by_cond (Rests SetBlocklen card) (argument == 512) _ _ (λ _ busy. inl busy) (λ _ busy. inl busy)
 busy_row choice ReadSingleBlock card index argument =
-    first_by_cond (Rests ReadSingleBlock card) (errors_found false choice card argument == 0) _ _ (λ _ busy. inl busy) (λ _ busy. inl busy)
+    first_by_cond (Rests ReadSingleBlock card) (transfer_errors false card argument == 0) _ _ (λ _ busy. inl busy) (λ _ busy. inl busy)
 busy_row choice ReadMultipleBlock card index argument =
-    first_by_cond (Rests ReadMultipleBlock card) (errors_found false choice card argument == 0) _ _ (λ _ busy. inl busy) (λ _ busy. inl busy)
+    first_by_cond (Rests ReadMultipleBlock card) (transfer_errors false card argument == 0) _ _ (λ _ busy. inl busy) (λ _ busy. inl busy)
 busy_row choice WriteBlock card index argument =
-    first_by_cond (Rests WriteBlock card) (errors_found true choice card argument == 0) _ _ (λ _ busy. inl busy) (λ _ busy. inl busy)
+    first_by_cond (Rests WriteBlock card) (transfer_errors true card argument == 0) _ _ (λ _ busy. inl busy) (λ _ busy. inl busy)
 busy_row choice WriteMultipleBlock card index argument =
-    first_by_cond (Rests WriteMultipleBlock card) (errors_found true choice card argument == 0) _ _ (λ _ busy. inl busy) (λ _ busy. inl busy)
+    first_by_cond (Rests WriteMultipleBlock card) (transfer_errors true card argument == 0) _ _ (λ _ busy. inl busy) (λ _ busy. inl busy)
 busy_row choice EraseStart card index argument = busy_first index card argument card.erase
 busy_row choice EraseEnd card index argument = busy_last index card argument card.erase
 busy_row choice _ card index argument = λ busy. inl busy
@@ -114,7 +116,7 @@ busy_after choice command card index argument =
     after_response (Rests command card) choice command card index argument (λ busy. inl busy)
     (λ _. as_busy (response_of command) card now (row choice command now index argument).0 same
     (busy_row choice command now index argument))
-    (λ busy. inl (sym same ∙ busy))
+    (λ busy. inl (sym same ∙ busy)) (λ busy. inl (sym same ∙ busy))
 
 -- Answers.
 
@@ -192,13 +194,13 @@ answer_row choice SendStatus card index argument =
     pair_by (Answers SendStatus index) (may_lag card && choice.is_behind) _ _ refl refl
 answer_row choice SetBlocklen card index argument = pair_by (Answers SetBlocklen index) (argument == 512) _ _ refl refl
 answer_row choice ReadSingleBlock card index argument =
-    pair_by (Answers ReadSingleBlock index) (errors_found false choice card argument == 0) _ _ refl refl
+    pair_by (Answers ReadSingleBlock index) (transfer_errors false card argument == 0) _ _ refl refl
 answer_row choice ReadMultipleBlock card index argument =
-    pair_by (Answers ReadMultipleBlock index) (errors_found false choice card argument == 0) _ _ refl refl
+    pair_by (Answers ReadMultipleBlock index) (transfer_errors false card argument == 0) _ _ refl refl
 answer_row choice WriteBlock card index argument =
-    pair_by (Answers WriteBlock index) (errors_found true choice card argument == 0) _ _ refl refl
+    pair_by (Answers WriteBlock index) (transfer_errors true card argument == 0) _ _ refl refl
 answer_row choice WriteMultipleBlock card index argument =
-    pair_by (Answers WriteMultipleBlock index) (errors_found true choice card argument == 0) _ _ refl refl
+    pair_by (Answers WriteMultipleBlock index) (transfer_errors true card argument == 0) _ _ refl refl
 answer_row choice EraseStart card index argument = answer_first index card argument card.erase
 answer_row choice EraseEnd card index argument = answer_last index card argument card.erase
 answer_row choice Erase card index argument = answer_erase index card argument card.erase
@@ -206,6 +208,34 @@ answer_row choice Switch card index argument =
     answer_switch index choice.says_late card (if choice.fails_switch then None else switched card argument)
 answer_row choice Unknown card index argument = tt
 answer_row choice _ card index argument = refl
+
+-- a command that finds an error is answered by an R1
+answer_hindered : (command : Command) (index bits : ℕ) (card : Card) → answered_index command index ≡ index → may_find command ≡ true
+    → Answers command index (hindered bits card index)
+answer_hindered SetRelativeAddr index bits card own may = sym own
+answer_hindered SendExtCsd index bits card own may = sym own
+answer_hindered SetBlocklen index bits card own may = sym own
+answer_hindered ReadSingleBlock index bits card own may = sym own
+answer_hindered ReadMultipleBlock index bits card own may = sym own
+answer_hindered SetBlockCount index bits card own may = sym own
+answer_hindered WriteBlock index bits card own may = sym own
+answer_hindered WriteMultipleBlock index bits card own may = sym own
+answer_hindered EraseStart index bits card own may = sym own
+answer_hindered EraseEnd index bits card own may = sym own
+answer_hindered Erase index bits card own may = sym own
+answer_hindered Switch index bits card own may = sym own
+answer_hindered SwitchFunc index bits card own may = sym own
+answer_hindered SetBusWidth index bits card own may = sym own
+answer_hindered SendScr index bits card own may = sym own
+answer_hindered AppCmd index bits card own may = sym own
+answer_hindered _ index bits card own may = cc
+
+answer_obeyed : (choice : Choice) (command : Command) (card : Card) (index argument : ℕ) → answered_index command index ≡ index
+    → Answers command index (obeyed choice command card index argument)
+answer_obeyed choice command card index argument own =
+    by_cond (Answers command index) (found choice command == 0) {x = row choice command card index argument}
+    {y = hindered (found choice command) card index} (λ _. answer_row choice command card index argument)
+    (λ some. answer_hindered command index (found choice command) card own (found_some choice command some).0)
 
 silent : (response : Response) (index : ℕ) → IsAnswered response index Silent
 silent response index = tt
@@ -220,8 +250,9 @@ answer_told choice kind app card index argument below =
     (own_index kind app index below)
     (pair_by (Answers command index) (is_foreign command card argument) (card, Silent) _
     (silent (response_of command) (answered_index command index))
-    (pair_by (Answers command index) (is_legal command card) (row choice command now index argument) (refused now, Silent)
-    (answer_row choice command now index argument) (silent (response_of command) (answered_index command index))))
+    (pair_by (Answers command index) (is_legal command card) (obeyed choice command now index argument) (refused now, Silent)
+    (answer_obeyed choice command now index argument (own_index kind app index below))
+    (silent (response_of command) (answered_index command index))))
 
 -- Data.
 
@@ -325,19 +356,19 @@ module _ (moved : ℕ) where
       first_by_cond (Moves SetBlocklen card) (argument == 512) _ _ (λ _. stays _ card _ refl) (λ _. stays _ card _ refl)
   move_row choice ReadSingleBlock card index argument sized =
       let after = begun In.Data true (Some 1) card argument in
-      move_transfer ReadSingleBlock 17 (errors_found false choice card argument) card after
+      move_transfer ReadSingleBlock 17 (transfer_errors false card argument) card after
       (begins_to_send (data_of ReadSingleBlock card.count moved) card after refl (refl, (refl, refl)))
   move_row choice ReadMultipleBlock card index argument sized =
       let after = begun In.Data false (preset card) card argument in
-      move_transfer ReadMultipleBlock 18 (errors_found false choice card argument) card after
+      move_transfer ReadMultipleBlock 18 (transfer_errors false card argument) card after
       (begins_to_send (data_of ReadMultipleBlock card.count moved) card after refl (refl, (refl, preset_blocks (card.count == 0) card.count)))
   move_row choice WriteBlock card index argument sized =
       let after = begun In.Rcv true (Some 1) card argument in
-      move_transfer WriteBlock 24 (errors_found true choice card argument) card after
+      move_transfer WriteBlock 24 (transfer_errors true card argument) card after
       (begins_to_accept (data_of WriteBlock card.count moved) card after refl (refl, refl))
   move_row choice WriteMultipleBlock card index argument sized =
       let after = begun In.Rcv false (preset card) card argument in
-      move_transfer WriteMultipleBlock 25 (errors_found true choice card argument) card after
+      move_transfer WriteMultipleBlock 25 (transfer_errors true card argument) card after
       (begins_to_accept (data_of WriteMultipleBlock card.count moved) card after refl (refl, preset_blocks (card.count == 0) card.count))
   move_row choice EraseStart card index argument sized = move_first index card argument card.erase
   move_row choice EraseEnd card index argument sized = move_last index card argument card.erase
@@ -379,7 +410,7 @@ module _ (moved : ℕ) where
       (λ _. as_before _ card now _ like.state
       (subst (λ n. HasDataAfter (data_of command n moved) now (row choice command now index argument).0) like.count
       (move_row choice command now index argument (sized_as command card now like.made sized))))
-      (stays _ card (refused now) like.state)
+      (stays _ card (shown now) like.state) (stays _ card (refused now) like.state)
 
   -- each kind sends its own registers
   abbrev is_of : Kind → Command → Bool

@@ -52,7 +52,7 @@ unsound_meets old new index argument frame reply command (slow_status choice beh
     absurd (unsound spells.0 spells.2)
 unsound_meets old new index argument frame reply command (fail_switch choice fails switch count card spells) unsound =
     absurd (unsound spells.0 spells.2)
-unsound_meets old new index argument frame reply command (find_error choice finds late transfers count card spells) unsound =
+unsound_meets old new index argument frame reply command (find_error choice finds late may count card spells) unsound =
     absurd (unsound spells.0 spells.2)
 unsound_meets old new index argument frame reply command (outlive choice bits other are fine idle count card silent) unsound =
     absurd (unsound Silent silent)

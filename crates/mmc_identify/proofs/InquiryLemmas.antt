@@ -17,7 +17,7 @@ use Rattle.mmc_card.specs.Made.{first_rca, is_sd}
 use Rattle.mmc_card.specs.Profile.{InProfile}
 use Rattle.mmc_card.specs.RowsErase.{forgotten}
 use Rattle.mmc_card.specs.RowsIdentify.{is_served}
-use Rattle.mmc_bus.specs.CommandLaws.{Does, Inquires, IsUnheard, Names, ShowsDropped, TellsReady, TellsWait}
+use Rattle.mmc_bus.specs.CommandLaws.{Does, Inquires, IsUnheard, Names, ShowsDropped, ShowsNoError, TellsReady, TellsWait, Whatever}
 use Rattle.mmc_bus.specs.declared.host.Unheard.{Unheard}
 use Rattle.mmc_bus.specs.declared.host.Unheard.TheVariants.{Nothing, Unsound}
 use Rattle.mmc_identify.specs.Judged as judged
@@ -37,7 +37,7 @@ idle_refused card idle = record { state = idle.state; told = idle.told; app = re
 abbrev Repeats : BusView → Result ℕ Unheard → BusView → Type 0
 Repeats old heard new =
     (old.card.made.kind ≡ Sd
-    → Does ((old.card.state ≡ Idle) × (old.card.made.answers_cmd8 ≡ true)) (λ card told. field 11 0 told ≡ 0x1aa)
+    → Does Whatever ((old.card.state ≡ Idle) × (old.card.made.answers_cmd8 ≡ true)) (λ card told. field 11 0 told ≡ 0x1aa)
     (record (done old.card) { accepted_cmd8 = true }) old heard new)
     × (old.card.made.kind ≡ Sd → old.card.made.answers_cmd8 ≡ false → old.card.state ≡ Idle
     → IsUnheard (refused old.card) old heard new)
@@ -83,7 +83,7 @@ probed old heard new result is repeats same idle =
 
 abbrev Expects : BusView → Result ℕ Unheard → BusView → Type 0
 Expects old heard new =
-    Does ((old.card.made.kind ≡ Sd) × ((old.card.state ≡ Idle) ⊎ (is_identified old.card.state ≡ true))
+    Does ShowsNoError ((old.card.made.kind ≡ Sd) × ((old.card.state ≡ Idle) ⊎ (is_identified old.card.state ≡ true))
     × Names 0 old.card) ShowsDropped
     (record (shown (forgotten old.card)) { app = true }) old heard new
 
@@ -122,7 +122,7 @@ answered_ok (Err Unsound) h = cc
 pub answered_by_sd : (old : BusView) (heard : Result ℕ Unheard) (new : BusView) (result : Result Bool IdentFault)
     → result ≡ judged.answered heard → Expects old heard new → result ≡ Ok true → old.card.made.kind ≡ Sd
 answered_by_sd old heard new result is expects ok =
-    let told = answered_ok heard (sym is ∙ ok) in (expects.sound told.0 told.1).0.0
+    let told = answered_ok heard (sym is ∙ ok) in (expects.there told.0 told.1).0
 
 -- Inquiries.
 

@@ -23,7 +23,7 @@ use Rattle.mmc_card.specs.Faults.{NoFault, Passes, at_once, has_failed, has_fall
 use Rattle.mmc_card.specs.RowsIdentify.{at_work}
 use Rattle.mmc_card.specs.Made.{Made}
 use Rattle.mmc_card.specs.Profile.{InProfile}
-use Rattle.mmc_bus.specs.CommandLaws.{Does, IsHeard, Names, TellsStatus}
+use Rattle.mmc_bus.specs.CommandLaws.{Does, IsHeard, Names, ShowsNoError, TellsStatus, Whatever}
 use Rattle.mmc_card.specs.Judged.{Shows}
 use Rattle.mmc_bus.specs.declared.host.Unheard.{Unheard}
 use Rattle.mmc_identify.specs.Judged as judged
@@ -45,9 +45,9 @@ idle_reset lands keeps old new e = subst (IsIdle false false 0) (sym e) (record 
 -- what is heard of a register is the one that the card tells
 pub register_own : {IsThere : Type 0} (register : Made → List ℕ) (after : Card) (old : BusView)
     (heard : Result (List ℕ) Unheard) (new : BusView)
-    → Does IsThere (λ card bytes. bytes ≡ register card.made) after old heard new
+    → Does Whatever IsThere (λ card bytes. bytes ≡ register card.made) after old heard new
     → IfOk (judged.told_register heard) (λ bytes. bytes ≡ register old.card.made)
-register_own register after old (Ok bytes) new does = (does.sound bytes refl).1.is
+register_own register after old (Ok bytes) new does = (does.sound bytes refl tt).0.is
 register_own register after old (Err unheard) new does = tt
 
 -- what is heard where it is determined
@@ -57,7 +57,7 @@ heard_is h = h.1 ∙ ap (λ x. Ok x) h.2
 -- CMD2.
 
 pub named_fine : (old : BusView) (heard : Result (List ℕ) Unheard) (new : BusView)
-    → Does (old.card.state ≡ Ready) (λ card cid. cid ≡ card.made.cid) (record (done old.card) { state = Ident }) old heard new
+    → Does Whatever (old.card.state ≡ Ready) (λ card cid. cid ≡ card.made.cid) (record (done old.card) { state = Ident }) old heard new
     → NoFault old new → old.card.state ≡ Ready
     → (judged.told_register heard ≡ Ok old.card.made.cid) × (new.card.state ≡ Ident)
 named_fine old heard new does same ready =
@@ -80,7 +80,7 @@ published_by false told rca e is some = rw e (ap Ok is)
 -- CMD3 publishes the RCA by which the card goes then
 abbrev pub Publishes : BusView → Result ℕ Unheard → BusView → Type 0
 Publishes old heard new =
-    Does ((old.card.state ≡ Ident) ⊎ (old.card.state ≡ Stby)) (λ card told. field 31 16 told ≡ new.card.rca)
+    Does Whatever ((old.card.state ≡ Ident) ⊎ (old.card.state ≡ Stby)) (λ card told. field 31 16 told ≡ new.card.rca)
     (record (shown old.card) { state = Stby; rca = new.card.rca }) old heard new
 
 pub published_fine : (old : BusView) (heard : Result ℕ Unheard) (new : BusView) (result : Result ℕ IdentFault)
@@ -103,11 +103,11 @@ pub published_own : (old : BusView) (heard : Result ℕ Unheard) (new : BusView)
     → IfOk (judged.published heard) (λ rca. rca ≡ new.card.rca)
 published_own old (Ok told) new does =
     subst (λ (known : ℕ). IfOk (judged.published (Ok told)) (λ rca. rca ≡ known))
-    (let says = (does.sound told refl).1 in says.is) (published_told _ told)
+    (let says = (does.sound told refl tt).0 in says.is) (published_told _ told)
 published_own old (Err unheard) new does = tt
 
 pub assigned_fine : (old : BusView) (heard : Result ℕ Unheard) (new : BusView)
-    → Does (old.card.state ≡ Ident) Shows
+    → Does ShowsNoError (old.card.state ≡ Ident) Shows
     (record (shown old.card) { state = Stby; rca = 1 }) old heard new
     → NoFault old new → old.card.state ≡ Ident → (judged.assigned heard ≡ Ok 1) × IsNamed 1 new.card
 assigned_fine old heard new does same ident =
@@ -118,7 +118,7 @@ assigned_fine old heard new does same ident =
 
 pub described_fine : (rca argument : ℕ) (old : BusView) (heard : Result (List ℕ) Unheard) (new : BusView)
     → field 31 16 argument ≡ rca
-    → Does ((old.card.state ≡ Stby) × Names argument old.card) (λ card csd. csd ≡ card.made.csd) (done old.card) old heard new
+    → Does Whatever ((old.card.state ≡ Stby) × Names argument old.card) (λ card csd. csd ≡ card.made.csd) (done old.card) old heard new
     → NoFault old new → IsNamed rca old.card
     → (judged.told_register heard ≡ Ok old.card.made.csd) × IsNamed rca new.card
 described_fine rca argument old heard new is_rca does same named =
@@ -201,7 +201,7 @@ selects told none = rw none refl
 
 pub selected_fine : (rca argument : ℕ) (old : BusView) (heard : Result ℕ Unheard) (new : BusView)
     → field 31 16 argument ≡ rca → LockLaw → IsCard old.card → InProfile old.card.made
-    → Does ((old.card.state ≡ Stby) × Names argument old.card) Shows
+    → Does Whatever ((old.card.state ≡ Stby) × Names argument old.card) Shows
     (record (busied (shown old.card)) { state = Tran; lags = true }) old heard new
     → NoFault old new → IsNamed rca old.card → IsOk (judged.selected heard) × IsTaken rca new.card
 selected_fine rca argument old heard new is_rca locked card profile does same named =
@@ -216,13 +216,13 @@ selected_ok (Err unheard) ok = cc
 
 pub selected_own : (rca argument : ℕ) (old : BusView) (heard : Result ℕ Unheard) (new : BusView)
     → field 31 16 argument ≡ rca → IsCard old.card
-    → Does ((old.card.state ≡ Stby) × Names argument old.card) Shows
+    → Does Whatever ((old.card.state ≡ Stby) × Names argument old.card) Shows
     (record (busied (shown old.card)) { state = Tran; lags = true }) old heard new
     → IsOk (judged.selected heard) → Looks rca new.card
 selected_own rca argument old heard new is_rca card does ok up =
     let t = selected_ok heard ok in
-    let s = does.sound t.0 t.1 in
-    (selected_after rca old.card new.card card s.0.0 (sym s.0.1 ∙ is_rca) s.2).selected
+    let there = does.there t.0 t.1 in
+    (selected_after rca old.card new.card card there.0 (sym there.1 ∙ is_rca) (does.sound t.0 t.1 tt).1).selected
 
 -- CMD13.
 

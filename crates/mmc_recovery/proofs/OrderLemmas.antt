@@ -21,7 +21,7 @@ use Rattle.mmc_switch.proofs.UnderWayLemmas.{knows_then, quiet_by, ready_again, 
 use Rattle.mmc_switch.specs.Place.{IsReady, Knows, StandsAs}
 use Rattle.mmc_switch.specs.declared.info.Info.{Info}
 use Rattle.mmc_switch.specs.declared.session.Session.{Session}
-use Rattle.mmc_recovery.specs.Settled.{Restores}
+use Rattle.mmc_recovery.specs.Settled.{IsFreed, Restores}
 
 -- Work of which nothing is said but that the card stays as it is set.
 abbrev pub Stirs : BusView → BusView → Type 0
@@ -36,13 +36,23 @@ Restored info r = Moved (Restores info r) Anything
 
 -- Blocks of 512 bytes, and nothing is held.
 
-abbrev pub set_to_blocks : Card → Card
-set_to_blocks card = record (shown (forgotten card)) { block_length = 512 }
-
 abbrev pub SetsBlocks : Result Unit Cause → BusView → BusView → Type 0
 SetsBlocks r =
-    Moved (λ old new. IsOk r → AfterSomeTime old (λ card. (card.state ≡ Tran) × (new.card ≡ set_to_blocks card)))
+    Moved (λ old new. IsOk r → AfterSomeTime old (λ card. (card.state ≡ Tran) × IsFreed card new.card))
     Anything
+
+-- what a card is after it, but for the block length
+freed : {X : Type 0} (f : Card → X) (old new : Card) → f (record (shown (forgotten old)) { block_length = 512 }) ≡ f (shown (forgotten old))
+    → IsFreed old new → f new ≡ f (shown (forgotten old))
+freed f old new same (inl e) = ap f e ∙ same
+freed f old new same (inr e) = ap f e
+
+-- one with blocks of 512 bytes is set as it was
+freed_setting : (setting : Setting) (old new : Card) → record setting { block_length = 512 } ≡ setting → setting_of old ≡ setting
+    → IsFreed old new → setting_of new ≡ setting
+freed_setting setting old new blocks was (inl e) =
+    ap setting_of e ∙ ap (λ (s : Setting). record s { block_length = 512 }) was ∙ blocks
+freed_setting setting old new blocks was (inr e) = ap setting_of e ∙ was
 
 abbrev pub Shows : {X : Type 0} → Result X Cause → BusView → BusView → Type 0
 Shows r = Worked Narrows (λ old new. IsOk r → AfterSomeTime old (λ card. HasShown card new.card)) Anything
@@ -54,15 +64,15 @@ has_shown old new (inr after) = subst (HasShown old) (sym after.card) refl
 
 -- a card in tran stands as it did
 stands_with_blocks : (session : Session) (a b : BusView) → b.lines ≡ a.lines → a.card.state ≡ Tran
-    → b.card ≡ set_to_blocks a.card → StandsAs session a → StandsAs session b
+    → IsFreed a.card b.card → StandsAs session a → StandsAs session b
 stands_with_blocks session a b lines tran e stands =
     let was = stands.stands.selected (ap is_selected tran) in
-    let now : b.card.state ≡ Tran = ap (λ (c : Card). c.state) e ∙ tran in
+    let now : b.card.state ≡ Tran = freed (λ (c : Card). c.state) a.card b.card refl e ∙ tran in
     record {
       part = stands.part;
       is_part = stands.is_part;
       stands = record {
-        selected = λ up. ap setting_of e ∙ ap (λ (s : Setting). record s { block_length = 512 }) was;
+        selected = λ up. freed_setting _ a.card b.card refl was e;
         sends = λ sends. cc (now, sends);
         reset = λ down. cc (ap is_selected now, down);
       };
@@ -80,7 +90,7 @@ stands_met session old met passes stands = record {
 
 -- and after CMD16, which met it in tran
 stands_once_set : (session : Session) (a b : BusView) → b.lines ≡ a.lines
-    → AfterSomeTime a (λ card. (card.state ≡ Tran) × (b.card ≡ set_to_blocks card)) → StandsAs session a → StandsAs session b
+    → AfterSomeTime a (λ card. (card.state ≡ Tran) × IsFreed card b.card) → StandsAs session a → StandsAs session b
 stands_once_set session a b lines blocks stands =
     let at = beside_card a blocks.0 blocks.1 (λ (v : BusView). v.lines) (λ card faults. refl) in
     stands_with_blocks session blocks.0 b (lines ∙ sym at) blocks.2.0 blocks.2.1
@@ -122,7 +132,7 @@ puts_in_order info kind first second last a b c d one two lines p q r =
           let showed = q.own two in
           let final = r.own ok in
           let none = (unmoved_by_time c final.0 final.1).erase ∙ ap (λ (x : Card). x.erase) showed.2
-          ∙ (unmoved_by_time b showed.0 showed.1).erase ∙ ap (λ (x : Card). x.erase) blocks.2.1 in
+          ∙ (unmoved_by_time b showed.0 showed.1).erase ∙ freed (λ (x : Card). x.erase) blocks.0.card b.card refl blocks.2.1 in
           in_order_again kind session final.0 d none final.2.1 final.2.0 r.is_card
           (knows_then session a d all.stays knows) still,
       λ unheard. still,

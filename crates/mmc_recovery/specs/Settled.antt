@@ -1,7 +1,10 @@
 -- What settling does with the card of a broken session, and what it leaves.
-use Rattle.std.specs.Prelude.{◌+◌, ◌≡◌, ◌≤◌, Bool, Err, IfSome, IsOk, MatchResult, None, Ok, Option, Result, Some}
+use Rattle.std.specs.Prelude.{◌+◌, ◌≡◌, ◌≤◌, ◌⊎◌, Bool, Err, IfSome, IsOk, MatchResult, None, Ok, Option, Result, Some}
 use Rattle.std.specs.Prelude.{false, true, ℕ}
 use Rattle.mmc_card.specs.BusView.{BusView}
+use Rattle.mmc_card.specs.Card.{Card}
+use Rattle.mmc_card.specs.CardAnswer.{shown}
+use Rattle.mmc_card.specs.RowsErase.{forgotten}
 use Rattle.mmc_card.specs.declared.part.Part.TheVariants.{User}
 use Rattle.mmc_bus.specs.declared.cause.Cause.{Cause}
 use Rattle.mmc_bus.specs.declared.cause.Cause.TheVariants.{Answer, Recovery}
@@ -17,6 +20,10 @@ use Rattle.mmc_recovery.specs.declared.order.TheConstants.{EXCHANGES_OF_A_PATIEN
 abbrev pub restoring : Patience → ℕ
 restoring Once = EXCHANGES_OF_A_RESTORATION
 restoring Twice = EXCHANGES_OF_A_PATIENT_RESTORATION
+
+-- a card after CMD16, whether it was carried out or found an error: its status is shown, and it holds no erase address
+abbrev pub IsFreed : Card → Card → Type 0
+IsFreed old new = (new ≡ record (shown (forgotten old)) { block_length = 512 }) ⊎ (new ≡ shown (forgotten old))
 
 -- A card that stood as its session says, with this known of it, is ready for that session if this is a success, and stands so
 -- still where an answer wasn't heard.

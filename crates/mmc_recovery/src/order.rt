@@ -1,13 +1,11 @@
 // Bringing a card back in order where it stands, without a reset.
 ghost use Rattle.std.specs.Prelude.{◌≡◌, ◌+◌, ◌≤◌, IfErr, IsOk};
 ghost use Rattle.mmc_frame.specs.declared.card_state.State.TheVariants.{Tran};
-ghost use Rattle.mmc_card.specs.CardAnswer.{shown};
 ghost use Rattle.mmc_card.specs.Laws.{AfterSomeTime};
-ghost use Rattle.mmc_card.specs.RowsErase.{forgotten};
 ghost use Rattle.mmc_bus.specs.Closings.{HasShown};
 ghost use Rattle.mmc_bus.specs.declared.cause.Cause.TheVariants as Why;
 ghost use Rattle.mmc_bus.specs.Work.{Anything, Moves, Narrows, Works};
-ghost use Rattle.mmc_recovery.specs.Settled.{Restores, restoring};
+ghost use Rattle.mmc_recovery.specs.Settled.{IsFreed, Restores, restoring};
 
 use mmc_bus::{
     Bus, Cause, MAX_POLLS, ask, confirm, identify_laws, rca_argument, transfer_laws,
@@ -58,15 +56,14 @@ fn end_work<B: Bus>(bus: &mut B, rca: u16) -> Result<(), Cause>
     }
 }
 
-// CMD16 with 512, whatever errors its R1 shows: it drops a preset count and held erase addresses. Where it isn't heard the cause
-// is `Recovery`: no law says how it leaves the card then.
+// CMD16 with 512, whatever errors its R1 shows: it drops a preset count and held erase addresses, whether it is carried out or finds
+// an error. Where it isn't heard the cause is `Recovery`: no law says how it leaves the card then.
 fn set_block_length<B: Bus>(bus: &mut B) -> Result<(), Cause>
     ensures bounded { (B.view bus.new).exchanges ≤ (B.view bus.old).exchanges + 1 }
     ensures lines { (B.view bus.new).lines ≡ (B.view bus.old).lines }
     ensures cause { IfErr result (λ cause. cause ≡ Why.Recovery) }
     ensures moves { Moves
-        (λ old new. IsOk result → AfterSomeTime old (λ card. (card.state ≡ Tran)
-        × (new.card ≡ record (shown (forgotten card)) { block_length = 512 })))
+        (λ old new. IsOk result → AfterSomeTime old (λ card. (card.state ≡ Tran) × IsFreed card new.card))
         Anything
         (B.view bus.old) (B.view bus.new) }
 {

@@ -1,11 +1,10 @@
 // The card identification register.
-ghost use Rattle.std.specs.Prelude.{◌≡◌, ◌≤◌, length, ℕ};
-ghost use Rattle.mmc_regs.specs.Cid.{is_product, manufacturer};
+ghost use Rattle.std.specs.Prelude.{◌≡◌, ℕ};
+ghost use Rattle.mmc_regs.specs.Cid.{manufacturer, product_name};
 ghost use Rattle.mmc_regs.specs.Register.{checked_number};
 
 use crate::bits::{bits, read_checked};
 use crate::fault::RegFault;
-use byteorder::{BigEndian, ByteOrder};
 use mmc_frame::Kind;
 use std::marker::Model;
 
@@ -39,19 +38,15 @@ impl Cid {
         bits(self.register, 127, 120) as u8
     }
 
-    /// Whether it is of this maker's product: MID, and PNM, bits 103 to 64 of an SD card and 103 to 56 of an eMMC device, with this
-    /// name of one to eight characters.
-    pub fn is_product(self, kind: Kind, manufacturer: u8, name: &[u8]) -> bool
-        requires some { 1 ≤ length name.now }
-        requires few { length name.now ≤ 8 }
-        ensures { result ≡ is_product kind manufacturer name.now self }
+    /// PNM, the name of the product as a number, its first character the highest byte: bits 103 to 64 of an SD card, five
+    /// characters, and bits 103 to 56 of an eMMC device, six.
+    pub fn product_name(self, kind: Kind) -> u64
+        ensures { result ≡ product_name kind self }
     {
-        let product = match kind {
-            Kind::Sd => bits(self.register, 103, 64),
-            Kind::Mmc => bits(self.register, 103, 56),
-        };
-        self.manufacturer() == manufacturer
-            && product as u64 == BigEndian::read_uint(name, name.len())
+        match kind {
+            Kind::Sd => bits(self.register, 103, 64) as u64,
+            Kind::Mmc => bits(self.register, 103, 56) as u64,
+        }
     }
 }
 

@@ -12,7 +12,7 @@ use Rattle.mmc_card.proofs.Passing.{still_in}
 use Rattle.mmc_card.specs.Laws.{IsStill, erased_by}
 use Rattle.mmc_card.specs.RowsErase.{forgotten}
 use Rattle.mmc_bus.proofs.WorkLemmas.{moved_by}
-use Rattle.mmc_bus.specs.CommandLaws.{Does, ShowsDropped}
+use Rattle.mmc_bus.specs.CommandLaws.{Does, ShowsDropped, ShowsNoError}
 use Rattle.mmc_bus.specs.Exchanges.{Kept}
 use Rattle.mmc_bus.specs.Heard.{response_of}
 use Rattle.mmc_bus.specs.Learned.{CommandMet}
@@ -54,7 +54,7 @@ still_left rca card left = still_in card Tran left.selected.state refl refl left
 pub length_set : (kind : Kind) (heard : Result ℕ Unheard) (r : Result Unit Cause) (old new : BusView)
     → erased_by old.card (Some (16, 512)) ≡ None → new.lines ≡ old.lines
     → Kept old (CommandMet (response_of 16) old 16 512 heard new) new
-    → (IsStill old.card → Does (old.card.state ≡ Tran) ShowsDropped
+    → (IsStill old.card → Does ShowsNoError (old.card.state ≡ Tran) ShowsDropped
     (record (shown (forgotten old.card)) { block_length = 512 }) old heard new)
     → ((told : ℕ) → Shows old.card told → Tells kind old.card (error_bits kind told ≡ 0) (HasNoError kind old.card))
     → (IsOk r → (told : ℕ) × (heard ≡ Ok told) × (error_bits kind (own_status told) ≡ 0))
@@ -66,7 +66,7 @@ length_set kind heard r old new none lines k does clean ok all =
     moved_by old 16 512 heard new none k
     (λ rca left first good.
     let told = ok good in
-    set_after rca old new k.was_card left first lines ((does (still_left rca old.card left)).sound told.0 told.1).2)
+    set_after rca old new k.was_card left first lines ((does (still_left rca old.card left)).sound told.0 told.1 (kind, told.2)).1)
     (λ same rca of left.
     let is = left.selected in
     let told = ((does (still_left rca old.card left)).fine same is.state).0 in

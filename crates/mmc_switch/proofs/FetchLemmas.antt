@@ -19,7 +19,7 @@ use Rattle.mmc_card.specs.Laws.{IsStill, Setting, erased_by, setting_of}
 use Rattle.mmc_card.specs.RowsErase.{forgotten}
 use Rattle.mmc_card.specs.RowsSwitch.{IsExtCsdOf, ext_csd_now, timing_number, width_number}
 use Rattle.mmc_card.specs.RowsTransfer.{sending}
-use Rattle.mmc_bus.specs.CommandLaws.{Does, ShowsDropped}
+use Rattle.mmc_bus.specs.CommandLaws.{Does, ShowsDropped, ShowsNoError}
 use Rattle.mmc_bus.specs.Heard.{response_heard, response_of}
 use Rattle.mmc_bus.specs.Learned.{Asked}
 use Rattle.mmc_bus.specs.declared.cause.Cause.{Cause}
@@ -46,7 +46,7 @@ pub commanded : {Asks IsThere : Type 0} (kind : Kind) (bytes : List ℕ) (timing
     → erased_by a.card (Some (index, argument)) ≡ None → ErrorsLaw → (Asks → IsThere → a.card.made.kind ≡ kind)
     → (IsOk r → (told : ℕ) × (heard ≡ Ok told) × (error_bits kind (own_status told) ≡ 0))
     → ((told : ℕ) → heard ≡ Ok told → error_bits kind told ≡ 0 → IsOk r)
-    → (IsStill a.card → Asks → Does IsThere ShowsDropped (sending bytes timing (forgotten a.card)) a heard b)
+    → (IsStill a.card → Asks → Does ShowsNoError IsThere ShowsDropped (sending bytes timing (forgotten a.card)) a heard b)
     → Commands Asks IsThere bytes timing r a b
 commanded kind bytes timing a index argument heard b r asked kept none errors of judged judges law =
     let k = asked.exchanged.kept kept in

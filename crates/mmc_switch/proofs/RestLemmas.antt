@@ -17,7 +17,7 @@ use Rattle.mmc_card.proofs.Passing.{still_in}
 use Rattle.mmc_card.specs.Laws.{IsStill, Setting, setting_of}
 use Rattle.mmc_card.specs.Rows.{without_addresses}
 use Rattle.mmc_card.specs.RowsErase.{forgotten}
-use Rattle.mmc_bus.specs.CommandLaws.{Does, ShowsDropped}
+use Rattle.mmc_bus.specs.CommandLaws.{Does, ShowsDropped, ShowsNoError}
 use Rattle.mmc_bus.specs.declared.cause.Cause.{Cause}
 use Rattle.mmc_bus.specs.declared.host.Unheard.{Unheard}
 use Rattle.mmc_bus.specs.Work.{Moved}
@@ -45,11 +45,10 @@ no_error kind is_app card rest =
 pub carried_out : {IsThere : Type 0} (kind : Kind) (Tells : Card → ℕ → Type 0) (after : Card) (old : BusView)
     (heard : Result ℕ Unheard) (new : BusView) (r : Result Unit Cause)
     → (IsOk r → (status : ℕ) × (heard ≡ Ok status) × (error_bits kind (own_status status) ≡ 0))
-    → Does IsThere Tells after old heard new → IsOk r → IsThere × (new.card ≡ after)
+    → Does ShowsNoError IsThere Tells after old heard new → IsOk r → IsThere × (new.card ≡ after)
 carried_out kind Tells after old heard new r judged does ok =
     let t = judged ok in
-    let s = does.sound t.0 t.1 in
-    (s.0, s.2)
+    (does.there t.0 t.1, (does.sound t.0 t.1 (kind, t.2)).1)
 
 -- the error bits of a status tell whether its card holds an error
 abbrev pub ErrorsLaw : Type 0
@@ -61,7 +60,7 @@ ErrorsLaw =
 pub answers_well : {IsThere : Type 0} (kind : Kind) (is_app : Bool) (after : Card) (old : BusView)
     (heard : Result ℕ Unheard) (new : BusView) (r : Result Unit Cause) → ErrorsLaw → IsCard old.card → old.card.made.kind ≡ kind
     → ((status : ℕ) → heard ≡ Ok status → error_bits kind status ≡ 0 → IsOk r)
-    → Does IsThere ShowsDropped after old heard new → NoFault old new
+    → Does ShowsNoError IsThere ShowsDropped after old heard new → NoFault old new
     → IsAtRest is_app old.card → IsThere → IsOk r
 answers_well kind is_app after old heard new r errors card of judges does same rest there =
     let told = (does.fine same there).0 in

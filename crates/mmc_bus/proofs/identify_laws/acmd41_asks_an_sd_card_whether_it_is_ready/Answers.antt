@@ -9,6 +9,6 @@ pub returns : goal.returns
 returns c = λ old new argument heard facts k.
     inquires _ (is_served old.card argument ≡ true) (λ choice. is_served old.card argument && not choice.is_slow)
     SdSendOpCond old 41 argument heard new facts k
-    (told_sd old.card.made.kind old.card.app old.card) (λ there. (rw (there.0, there.1) refl, there.2)) refl refl refl
+    (told_sd old.card.made.kind old.card.app old.card) (λ there. (rw (there.0, there.1) refl, there.2)) refl refl refl refl
     (λ left errors choice. refl)
     (λ served choice wait. not_false choice.is_slow (rw served at wait))

@@ -1,6 +1,7 @@
 use Rattle.std.proofs.Common.{◌<◌, ◌∙◌, ◌≡◌, Bool, ap, cond, false, inl, inr, not, refl, subst, true, ℕ}
 use Rattle.std.specs.Prelude.{◌&&◌, Result}
 use Rattle.mmc_bus.specs.declared.host.Unheard.{Unheard}
+use Rattle.mmc_bus.proofs.FoundLemmas.{whatever}
 use Rattle.mmc_bus.proofs.Readers.{with_errors}
 use Rattle.mmc_bus.proofs.CommandLemmas.{does_one, named, not_true, owns, same_heard}
 use Rattle.mmc_card.proofs.JudgedLemmas.{Says}
@@ -48,8 +49,8 @@ outcome : (old new : BusView) (argument : ℕ) (heard : Result ℕ Unheard) → 
 outcome old new argument heard facts =
     let card = old.card in
     does_one (response_of 13) _ TellsStatus
-    (λ choice card. (send_status choice card).0) (λ choice card. (send_status choice card).1) SendStatus old 13 argument
-    heard new facts refl
+    (λ choice card. (send_status choice card).0) (λ choice card. (send_status choice card).1) SendStatus old 13 argument heard new
+    (whatever (response_of 13) old 13 argument heard new facts refl) refl
     (λ own legal. let h = both (is_identified card.state) (not card.app) legal in
     (h.0, not_true card.app h.1, named argument card own))
     (λ there. (owns argument card there.2, rw (there.0, there.1) refl))

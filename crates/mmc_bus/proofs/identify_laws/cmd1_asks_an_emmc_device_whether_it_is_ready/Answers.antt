@@ -7,5 +7,5 @@ use Rattle.mmc_card.specs.declared.command.Command.TheVariants.{SendOpCond}
 pub returns : goal.returns
 returns c = λ old new argument heard facts k.
     inquires _ Unit (λ choice. not choice.is_slow) SendOpCond old 1 argument heard new facts k
-    (told_mmc old.card.made.kind old.card.app old.card) (λ there. (rw there.0 refl, there.1)) refl refl refl (λ left errors choice. refl)
+    (told_mmc old.card.made.kind old.card.app old.card) (λ there. (rw there.0 refl, there.1)) refl refl refl refl (λ left errors choice. refl)
     (λ served choice wait. not_false choice.is_slow wait)

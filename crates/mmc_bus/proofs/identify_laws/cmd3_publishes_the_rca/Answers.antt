@@ -1,6 +1,7 @@
 use Rattle.std.proofs.Common.{◌+◌, ◌<◌, ◌∙◌, ◌≡◌, Bool, ap, arith, false, refl, subst, sym, true, ℕ}
 use Rattle.std.specs.Prelude.{◌%◌, if◌then◌else◌}
 use Rattle.mmc_frame.specs.declared.card_state.State.TheVariants.{Ident, Stby}
+use Rattle.mmc_bus.proofs.FoundLemmas.{whatever}
 use Rattle.mmc_bus.proofs.Readers.{with_errors}
 use Rattle.mmc_bus.proofs.CommandLemmas.{checked_told, comes, does_either, either_in, low_either, two_tests}
 use Rattle.mmc_bus.proofs.identify_laws.cmd3_publishes_the_rca.Goals as goal
@@ -41,7 +42,8 @@ returns c = record {
   does = λ old new argument heard facts k kind.
       does_either {N = ℕ} (response_of 3) Ident Stby (λ choice. published choice old.card.made) (λ (card : Card). card.rca)
       (λ rca card told. field 31 16 told ≡ rca) (λ rca. record (shown old.card) { state = Stby; rca = rca })
-      (λ choice card. Checked 3 (r6_argument (published choice old.card.made) card)) SendRelativeAddr old 3 argument heard new facts (rw kind refl)
+      (λ choice card. Checked 3 (r6_argument (published choice old.card.made) card)) SendRelativeAddr old 3 argument heard new
+      (whatever (response_of 3) old 3 argument heard new facts (rw kind refl)) (rw kind refl)
       refl refl (λ left errors choice keeps there. ap (λ (c : Card). row choice SendRelativeAddr c 3 argument)
       (low_either choice SendRelativeAddr (with_errors left errors old.card) Ident Stby k.held there refl refl))
       (λ left errors choice said is. publishes old.card.made.kind (published choice old.card.made) (with_errors left errors old.card) said kind

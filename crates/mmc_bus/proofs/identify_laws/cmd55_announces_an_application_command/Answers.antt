@@ -1,5 +1,6 @@
 use Rattle.std.proofs.Common.{ap, refl, true}
 use Rattle.mmc_frame.specs.declared.card_state.State.TheVariants.{Idle}
+use Rattle.mmc_bus.proofs.FoundLemmas.{unless_found}
 use Rattle.mmc_bus.proofs.Readers.{with_errors}
 use Rattle.mmc_bus.proofs.CommandLemmas.{does, dropped, either_in, in_either, named, owns, told_by_kind, unheard}
 use Rattle.mmc_bus.proofs.CommandLemmas.{none_held, shows_dropped}
@@ -17,7 +18,8 @@ pub returns : goal.returns
 returns c = record {
   idle = λ old new argument heard facts k.
       does (response_of 55) _ ShowsDropped _
-      (λ choice card. Checked 55 (status true (without_addresses choice.drops_quietly card))) AppCmd old 55 argument heard new facts refl
+      (λ choice card. Checked 55 (status true (without_addresses choice.drops_quietly card))) AppCmd old 55 argument heard new
+      (unless_found old 55 argument heard new facts) refl
       (λ own legal. let h = both (is_sd old.card.made.kind) _ legal in (
         told_by_kind old.card.made.kind h.0,
         in_either old.card.state Idle (is_identified old.card.state) h.1,

@@ -1,6 +1,7 @@
 use Rattle.std.proofs.Common.{◌∙◌, ◌≡◌, ap, arith, refl, subst, ℕ}
 use Rattle.mmc_frame.specs.Field.{field}
 use Rattle.mmc_frame.specs.declared.card_state.State.TheVariants.{Idle, Tran}
+use Rattle.mmc_bus.proofs.FoundLemmas.{whatever}
 use Rattle.mmc_bus.proofs.Readers.{with_errors}
 use Rattle.mmc_bus.proofs.CommandLemmas.{checked_told, does_known, low_reached, unheard}
 use Rattle.mmc_bus.proofs.identify_laws.cmd8_is_repeated_by_a_card_that_knows_it.Goals as goal
@@ -29,7 +30,8 @@ pub returns : goal.returns
 returns c = record {
   does = λ old new argument heard facts k kind voltage.
       does_known (response_of 8) Idle old.card.made.answers_cmd8 (λ card told. field 11 0 told ≡ field 11 0 argument) _
-      (λ choice card. Checked 8 (field 11 0 argument)) SendIfCond old 8 argument heard new facts (rw kind refl)
+      (λ choice card. Checked 8 (field 11 0 argument)) SendIfCond old 8 argument heard new
+      (whatever (response_of 8) old 8 argument heard new facts (rw kind refl)) (rw kind refl)
       refl refl (λ left errors choice keeps there. ap (λ (c : Card). row choice SendIfCond c 8 argument)
       (low_reached choice SendIfCond (with_errors left errors old.card) Idle k.held there refl)
       ∙ ap (λ n. row choice SendIfCond (with_errors left n old.card) 8 argument) (keeps refl) ∙ rw voltage refl) (λ left errors choice said is. repeated old.card.made.kind argument said kind is);

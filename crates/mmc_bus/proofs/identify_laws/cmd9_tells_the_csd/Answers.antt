@@ -1,6 +1,7 @@
 use Rattle.std.proofs.Common.{◌∙◌, ◌≡◌, ap, refl}
 use Rattle.mmc_frame.specs.declared.card_state.State.TheVariants.{Stby}
 use Rattle.mmc_card.proofs.Cards.{in_state}
+use Rattle.mmc_bus.proofs.FoundLemmas.{whatever}
 use Rattle.mmc_bus.proofs.Readers.{with_errors}
 use Rattle.mmc_bus.proofs.CommandLemmas.{does, in_is, low_reached, named, owns}
 use Rattle.mmc_bus.proofs.identify_laws.cmd9_tells_the_csd.Goals as goal
@@ -12,7 +13,8 @@ use Rattle.mmc_card.specs.Rows.{row}
 
 pub returns : goal.returns
 returns c = λ old new argument heard facts k.
-    does register_of _ (λ card csd. csd ≡ card.made.csd) _ (λ choice card. R2 card.made.csd) SendCsd old 9 argument heard new facts refl
+    does register_of _ (λ card csd. csd ≡ card.made.csd) _ (λ choice card. R2 card.made.csd) SendCsd old 9 argument heard new
+    (whatever register_of old 9 argument heard new facts refl) refl
     (λ own legal. (in_state old.card.state Stby legal, named argument old.card own))
     (λ there. (owns argument old.card there.1, in_is old.card.state Stby there.0))
     (λ left errors choice keeps there. ap (λ (c : Card). row choice SendCsd c 9 argument)

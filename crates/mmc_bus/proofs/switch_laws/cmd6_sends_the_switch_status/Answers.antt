@@ -1,5 +1,6 @@
 use Rattle.std.proofs.Common.{◌∙◌, ◌≡◌, ap, false, refl, sym, ℕ}
 use Rattle.mmc_frame.specs.declared.card_state.State.TheVariants.{Tran}
+use Rattle.mmc_bus.proofs.FoundLemmas.{unless_found}
 use Rattle.mmc_bus.proofs.Readers.{with_errors}
 use Rattle.mmc_bus.proofs.CommandLemmas.{comes, does_known_chosen, dropped, shows_dropped, switch_bytes}
 use Rattle.mmc_bus.proofs.switch_laws.cmd6_sends_the_switch_status.Goals as goal
@@ -33,7 +34,8 @@ returns c = record {
       (λ choice. switch_source choice old.card argument) (λ (card : Card). card.source)
       ShowsDropped
       (λ source. sending (bytes_sent source) (timing_once_sent source old.card.timing) (forgotten old.card))
-      (λ choice card. Checked 6 (status false (without_addresses choice.drops_quietly card))) SwitchFunc old 6 argument heard new facts
+      (λ choice card. Checked 6 (status false (without_addresses choice.drops_quietly card))) SwitchFunc old 6 argument heard new
+      (unless_found old 6 argument heard new facts)
       (rw (kind, app) refl) refl refl
       (λ left errors choice keeps. sends choice (with_errors left errors old.card) argument
       ∙ ap (λ (s : Source). (
@@ -43,8 +45,8 @@ returns c = record {
       (sym (switch_bytes old.card.timing old.card argument _ (choice, refl))))
       (λ left errors choice said is. shows_dropped old.card.made.kind 6 false choice
       (with_errors left errors old.card) said refl refl is) (λ choice. switch_bytes old.card.timing old.card argument _ (choice, refl));
-  sends = λ old new argument told heard facts kind app h.
-      let o = facts.sound told h in
+  sends = λ old new argument told heard facts kind app h none.
+      let o = (unless_found old 6 argument heard new facts).obeyed told h none in
       let d = comes o.choice SwitchFunc (showing o.left o.found old.card) 6 argument _ (rw (kind, app) refl)
       (sends o.choice (showing o.left o.found old.card) argument) in
       (o.choice, ap (λ (card : Card). card.source) (o.card ∙ ap (λ (x : Card × CardAnswer). x.0) d));

@@ -1,5 +1,6 @@
 use Rattle.std.proofs.Common.{◌∙◌, ◌≡◌, List, ap, false, refl, subst, sym, ℕ}
 use Rattle.mmc_frame.specs.declared.card_state.State.TheVariants.{Tran}
+use Rattle.mmc_bus.proofs.FoundLemmas.{unless_found}
 use Rattle.mmc_bus.proofs.Readers.{with_errors}
 use Rattle.mmc_bus.proofs.CommandLemmas.{comes, does_in_chosen, dropped, shows_dropped}
 use Rattle.mmc_bus.proofs.switch_laws.cmd8_sends_the_ext_csd.Goals as goal
@@ -31,12 +32,13 @@ returns c = record {
       does_in_chosen {N = List ℕ} (response_of 8) Tran (λ choice. reread is_read choice.unread (ext_csd_now old.card))
       (λ (card : Card). bytes_sent card.source) ShowsDropped
       (λ bytes. sending bytes old.card.timing (forgotten old.card))
-      (λ choice card. Checked 8 (status false (without_addresses choice.drops_quietly card))) SendExtCsd old 8 argument heard new facts (rw kind refl)
+      (λ choice card. Checked 8 (status false (without_addresses choice.drops_quietly card))) SendExtCsd old 8 argument heard new
+      (unless_found old 8 argument heard new facts) (rw kind refl)
       refl refl (λ left errors choice keeps. sends choice (with_errors left errors old.card) argument)
       (λ left errors choice said is. shows_dropped old.card.made.kind 8 false choice (with_errors left errors old.card) said refl (rw kind refl) is)
       (λ choice. refl);
-  sends = λ old new argument told heard facts kind h.
-      let o = facts.sound told h in
+  sends = λ old new argument told heard facts kind h none.
+      let o = (unless_found old 8 argument heard new facts).obeyed told h none in
       let d = comes o.choice SendExtCsd (showing o.left o.found old.card) 8 argument _ (rw kind refl)
       (sends o.choice (showing o.left o.found old.card) argument) in
       subst (IsExtCsdOf old.card)

@@ -1,5 +1,6 @@
 use Rattle.std.proofs.Common.{ap, refl, true}
 use Rattle.mmc_frame.specs.declared.card_state.State.TheVariants.{Tran}
+use Rattle.mmc_bus.proofs.FoundLemmas.{unless_found}
 use Rattle.mmc_bus.proofs.Readers.{with_errors}
 use Rattle.mmc_bus.proofs.CommandLemmas.{dropped, in_is, shows_dropped, tells_kind}
 use Rattle.mmc_bus.proofs.InquiryLemmas.{told_app}
@@ -15,7 +16,8 @@ use Rattle.mmc_bus.specs.CommandLaws.{ShowsDropped}
 pub returns : goal.returns
 returns c = λ old new argument heard facts.
     tells_kind (response_of 51) _ ShowsDropped _
-    (λ choice card. Checked 51 (status true (without_addresses choice.drops_quietly card))) SendScr old 51 argument heard new facts
+    (λ choice card. Checked 51 (status true (without_addresses choice.drops_quietly card))) SendScr old 51 argument heard new
+    (unless_found old 51 argument heard new facts)
     (told_app old.card.made.kind old.card.app old.card) (λ there. rw (there.0, there.1) refl) refl
     (λ there. in_is old.card.state Tran there.2)
     (λ left errors choice keeps. ap (λ (d : Card). (d, Checked 51 (status true (without_addresses choice.drops_quietly (with_errors left errors old.card)))))

@@ -4,10 +4,10 @@ use Rattle.mmc_frame.specs.declared.card_state.State.TheVariants.{Rcv}
 use Rattle.mmc_bus.proofs.Readers.{with_errors}
 use Rattle.mmc_bus.proofs.CommandLemmas.{begins, transfers}
 use Rattle.mmc_bus.proofs.transfer_laws.cmd24_begins_a_write.Goals as goal
-use Rattle.mmc_card.specs.RowsTransfer.{begun, errors_found}
+use Rattle.mmc_card.specs.RowsTransfer.{begun, transfer_errors}
 
 pub returns : goal.returns
 returns c = λ old new address heard facts card.
     begins true 24 _ old address heard new facts card refl refl refl
-    (λ left errors choice. transfers (λ d. errors_found true choice d address) choice.drops_quietly 24 (with_errors left errors old.card)
+    (λ left errors choice. transfers (λ d. transfer_errors true d address) choice.drops_quietly 24 (with_errors left errors old.card)
     (λ d. begun Rcv true (Some 1) d address) refl refl refl)

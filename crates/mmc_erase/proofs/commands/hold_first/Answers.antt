@@ -17,6 +17,6 @@ returns-clause-works g c kept =
     command_worked asked (erases_nothing first_index first_names_only kind old.card c.args.address)
     (is_of_a_run first_index first_names_only kind old.card c.args.address) kept
     (λ ok still is none. let told = c.check_r1.ensures.ok ok in
-    done_where_answered kind _ old _ _ (law still is none) told.0 told.1)
+    done_where_answered kind _ old _ _ (law still is none) told.0 told.1 told.2)
     (λ same can. done_where_it_can kind _ old _ _ (law can.is_still can.is_kind can.erase) NoAddress
     c.a_status_tells_of_its_card.ensures.errors k.was_card c.check_r1.ensures.all same can)

@@ -15,7 +15,7 @@ returns-clause-works g c kept =
     command_worked asked (erases_nothing last_index last_names_only kind old.card c.args.address)
     (is_of_a_run last_index last_names_only kind old.card c.args.address) kept
     (λ first ok still is one. let told = c.check_r1.ensures.ok ok in
-    done_where_answered kind _ old _ _ (last_law e.sd e.mmc kind old _ first c.args.address _ (k.step.at_once still) is one) told.0 told.1)
+    done_where_answered kind _ old _ _ (last_law e.sd e.mmc kind old _ first c.args.address _ (k.step.at_once still) is one) told.0 told.1 told.2)
     (λ same first can. done_where_it_can kind _ old _ _
     (last_law e.sd e.mmc kind old _ first c.args.address _ (k.step.at_once can.is_still) can.is_kind can.erase) (First first)
     c.a_status_tells_of_its_card.ensures.errors k.was_card c.check_r1.ensures.all same can)

@@ -7,9 +7,14 @@ returns-in-Ok-clause-moves g c kept =
     let old = g.B.Bus.view c.args.bus.now in
     let new = g.B.Bus.view c.ask.new.bus in
     let k = c.in-Ok.ensures.asked.exchanged.kept kept in
-    let law = c.cmd16_sets_the_block_length.ensures k.step.met new _ k.step.facts in
+    let law = c.cmd16_sets_the_block_length.ensures in
+    let facts = k.step.facts in
     moved_by old 16 512 _ new refl k
-    (λ ok. let told = law.sound c.in-Ok.field-0 refl in (k.step.met, k.step.passes, (told.0, told.2))) (λ same. tt)
+    (λ ok. (
+      k.step.met,
+      k.step.passes,
+      ((law.does k.step.met new _ facts).there c.in-Ok.field-0 refl, law.answered k.step.met new c.in-Ok.field-0 _ facts refl),
+    )) (λ same. tt)
 
 pub returns-in-Err-clause-moves : goal.returns-in-Err-clause-moves
 returns-in-Err-clause-moves g c kept =

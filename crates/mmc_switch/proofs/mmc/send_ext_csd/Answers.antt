@@ -45,7 +45,7 @@ returns-in_err-receive-clause-moves g c kept =
     q.was_kept none c.a_status_tells_of_its_card.ensures.errors (λ asks there. asks.0) judged.ok judged.all
     (λ is asks. c.cmd8_sends_the_ext_csd.ensures.does _ _ _ _ (k.step.at_once is) asks.0) in
     let sends : a.card.made.kind ≡ Mmc → IsStill a.card → IsExtCsdOf a.card bytes =
-    λ mmc is. c.cmd8_sends_the_ext_csd.ensures.sends _ _ _ _ _ (k.step.at_once is) mmc (judged.ok refl).1 in
+    λ mmc is. c.cmd8_sends_the_ext_csd.ensures.sends _ _ _ _ _ (k.step.at_once is) mmc (judged.ok refl).1 (Mmc, (judged.ok refl).2) in
     ext_csd_sent bytes r a d (λ mmc is ok. sends mmc is)
     (block_fails 512 false bytes c.receive.new.buffer timing (λ bytes. bytes) cause r a b d
     (λ asks can card. (sends asks.0 asks.1).len ∙ ext_csd_length a.card (card.registers.ext_csd asks.0)) c.from_residual-in_err-receive.ensures.0 p q)
@@ -66,6 +66,6 @@ returns-clause-moves g c kept =
     q.was_kept none c.a_status_tells_of_its_card.ensures.errors (λ asks there. asks.0) judged.ok judged.all
     (λ is asks. c.cmd8_sends_the_ext_csd.ensures.does _ _ _ _ (k.step.at_once is) asks.0) in
     let sends : a.card.made.kind ≡ Mmc → IsStill a.card → IsExtCsdOf a.card bytes =
-    λ mmc is. c.cmd8_sends_the_ext_csd.ensures.sends _ _ _ _ _ (k.step.at_once is) mmc (judged.ok refl).1 in
+    λ mmc is. c.cmd8_sends_the_ext_csd.ensures.sends _ _ _ _ _ (k.step.at_once is) mmc (judged.ok refl).1 (Mmc, (judged.ok refl).2) in
     ext_csd_sent bytes (Ok c.receive.new.buffer) a d (λ mmc is ok. sends mmc is)
     (fetched 512 false bytes c.receive.new.buffer timing (λ bytes. bytes) c.receive.new.buffer a b d refl p q)

@@ -48,7 +48,7 @@ returns-in_err-receive-clause-moves g c kept =
     c.ask.result b (Ok tt) asked q.was_kept none c.a_status_tells_of_its_card.ensures.errors (λ asks there. asks.0) judged.ok judged.all
     (λ is asks. c.cmd6_sends_the_switch_status.ensures.does _ _ _ _ (k.step.at_once is) asks.0 asks.1) in
     let sends : a.card.made.kind ≡ Sd → a.card.app ≡ false → IsStill a.card → IsSwitchSource a.card argument b.card.source =
-    λ sd app is. c.cmd6_sends_the_switch_status.ensures.sends _ _ _ _ _ (k.step.at_once is) sd app (judged.ok refl).1 in
+    λ sd app is. c.cmd6_sends_the_switch_status.ensures.sends _ _ _ _ _ (k.step.at_once is) sd app (judged.ok refl).1 (Sd, (judged.ok refl).2) in
     status_sent argument r a b d (λ sd app is ok. refuted r c.from_residual-in_err-receive.ensures.0 ok)
     (block_fails 64 false bytes c.receive.new.buffer timing (λ bytes. bytes) cause r a b d
     (λ asks has card. sent_length a.card argument b.card.source (sends asks.0 asks.1 asks.2)
@@ -71,6 +71,6 @@ returns-clause-moves g c kept =
     c.ask.result b (Ok tt) asked q.was_kept none c.a_status_tells_of_its_card.ensures.errors (λ asks there. asks.0) judged.ok judged.all
     (λ is asks. c.cmd6_sends_the_switch_status.ensures.does _ _ _ _ (k.step.at_once is) asks.0 asks.1) in
     let sends : a.card.made.kind ≡ Sd → a.card.app ≡ false → IsStill a.card → IsSwitchSource a.card argument b.card.source =
-    λ sd app is. c.cmd6_sends_the_switch_status.ensures.sends _ _ _ _ _ (k.step.at_once is) sd app (judged.ok refl).1 in
+    λ sd app is. c.cmd6_sends_the_switch_status.ensures.sends _ _ _ _ _ (k.step.at_once is) sd app (judged.ok refl).1 (Sd, (judged.ok refl).2) in
     status_sent argument (Ok c.new.result) a b d (λ sd app is ok. sends sd app is)
     (fetched 64 false bytes c.receive.new.buffer timing (λ bytes. bytes) c.new.result a b d c.new.ensures p q)

@@ -13,6 +13,6 @@ returns-clause-moves g c kept =
     let none = c.no_command_but_erase_widens.ensures old.card 16 512 (omega arith)
     (λ is. absurd (omega (arith, is))) in
     length_set kind heard c.check_own.result old new none e.lines k
-    (λ is. c.cmd16_sets_the_block_length.ensures old new heard (k.step.at_once is))
+    (λ is. c.cmd16_sets_the_block_length.ensures.does old new heard (k.step.at_once is))
     (λ told. c.a_status_tells_of_its_card.ensures.errors kind told old.card k.was_card) c.check_own.ensures.ok
     c.check_own.ensures.all

@@ -1,4 +1,5 @@
-use Rattle.mmc_card_rows.proofs.ChipLemmas.{errors_by, transfer_errors_known}
+use Rattle.std.proofs.Common.{arith}
+use Rattle.mmc_card_rows.proofs.ChipLemmas.{transfer_errors_known}
 use Rattle.mmc_card_rows.proofs.chip.Chip.errors_at.Goals as goal
 
 pub returns-clause-errors : goal.returns-clause-errors
@@ -14,7 +15,7 @@ returns-clause-errors c =
       c.sector_at.ensures.sector,
       c.size.ensures.size,
     )
-    (errors_by _ _ _ _ _)
+    (omega arith)
 
 pub returns-clause-known : goal.returns-clause-known
 returns-clause-known c =
