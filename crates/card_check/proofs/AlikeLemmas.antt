@@ -1,4 +1,4 @@
--- Whatever lines a host has, it refuses the same requests.
+-- Whatever lines a host has, it refuses the same requests, if the card tells it the same of its write protection.
 use Rattle.std.proofs.Common.{◌≡◌, ◌∙◌, Option, ap, refl, sym, ℕ}
 use Rattle.mmc_card.specs.Made.{Made}
 use Rattle.mmc_card.specs.declared.exchange.Lines.{Lines}
@@ -19,7 +19,8 @@ use Rattle.mmc_queue.specs.declared.request.Request.{Request}
 use Rattle.mmc_block.specs.Refusal.{first_refusal, no_bytes, no_change, no_place, no_sectors, refused_for}
 use Rattle.std.specs.Prelude.{Some, if◌then◌else◌, not, option_map, ◌&&◌, Bool}
 
-module _ (l m : Lines) (made : Made) (a b : Info) (p : IsInfo l made a) (q : IsInfo m made b) where
+module _ (l m : Lines) (made : Made) (a b : Info) (p : IsInfo l made a) (q : IsInfo m made b)
+    (told : a.read_only ≡ b.read_only) where
   size_same : (part : Part) → size_of a.sizes part ≡ size_of b.sizes part
   size_same part = p.sizes part ∙ sym (q.sizes part)
 
@@ -39,7 +40,7 @@ module _ (l m : Lines) (made : Made) (a b : Info) (p : IsInfo l made a) (q : IsI
       → change_refusal kind a part start count ≡ change_refusal kind b part start count
   change_same kind part start count =
       ap (λ (read_only : Bool). if read_only && not (is_read kind) then Some ReadOnly else erase_refusal kind a part start count)
-      (p.read_only ∙ sym q.read_only)
+      told
       ∙ ap (λ (why : Option Reason). if b.read_only && not (is_read kind) then Some ReadOnly else why)
       (erase_same kind part start count)
 

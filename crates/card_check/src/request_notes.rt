@@ -54,10 +54,10 @@ pub fn refusal(info: &Info, request: &Request) -> Option<Refused>
     }
 }
 
-/// A law: whatever lines hosts have, they refuse the same requests of a card.
+/// A law: whatever lines hosts have, they refuse the same requests of a card that tells them the same of its write protection.
 pub fn hosts_refuse_alike()
-    ensures { (l m : Lines) (made : Made) (a b : Info) → IsInfo l made a → IsInfo m made b → (waiting next : ℕ) (request : Request)
-        → first_refusal a waiting next request ≡ first_refusal b waiting next request }
+    ensures { (l m : Lines) (made : Made) (a b : Info) → IsInfo l made a → IsInfo m made b → a.read_only ≡ b.read_only
+        → (waiting next : ℕ) (request : Request) → first_refusal a waiting next request ≡ first_refusal b waiting next request }
 {}
 
 // What stands in front of a note.

@@ -3,9 +3,10 @@ use Rattle.std.proofs.Common.{◌≡◌, ℕ, ◌+◌, ◌*◌, ◌/◌, ◌%◌
 use Rattle.mmc_regs.specs.CsdFields.{c_size, c_size_mult, c_size_v2, ccc, class_10, csd_structure, perm_write_protect, read_bl_len}
 use Rattle.mmc_regs.specs.CsdFields.{tmp_write_protect, write_bl_len}
 use Rattle.mmc_regs.specs.Register.{register_number}
-use Rattle.card_maker.specs.NewRegisters.{bit, checked_register, csd_by_blocks, csd_v2}
+use Rattle.mmc_regs.specs.Register.{checked_register}
+use Rattle.card_maker.specs.NewRegisters.{bit, csd_by_blocks, csd_v2}
 use Rattle.card_maker.specs.declared.csd.TheConstants.{MMC_FIXED, V1_FIXED, V2_FIXED}
-use Rattle.card_maker.proofs.CheckedLemmas.{check_in, check_small, checked_number_is}
+use Rattle.mmc_regs.proofs.CheckedLemmas.{check_in, check_small, checked_number_is}
 
 bit_small : (b : Bool) → bit b < 2
 bit_small true = omega arith

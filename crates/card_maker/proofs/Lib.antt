@@ -1,4 +1,3 @@
-pub mod CheckedLemmas
 pub mod CountLemmas
 pub mod ExtLemmas
 pub mod FieldLemmas

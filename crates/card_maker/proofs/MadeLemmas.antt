@@ -13,7 +13,8 @@ use Rattle.mmc_card_sim.specs.Sizes.{total}
 use Rattle.mmc_card_rows.specs.declared.registers.Registers.{Registers}
 use Rattle.mmc_card_sim.specs.declared.spec.CardSpec.{CardSpec}
 use Rattle.card_maker.specs.NewExtCsd.{new_ext_csd}
-use Rattle.card_maker.specs.NewRegisters.{checked_register, csd_by_blocks, csd_v2, mmc_registers, new_scr, sd_classes, sd_registers}
+use Rattle.mmc_regs.specs.Register.{checked_register}
+use Rattle.card_maker.specs.NewRegisters.{csd_by_blocks, csd_v2, mmc_registers, new_scr, sd_classes, sd_registers}
 use Rattle.card_maker.specs.Sizes.{IsByteCount, IsCardOf, IsCount, IsSectorCount, IsSizeFault, SaysCount}
 use Rattle.card_maker.specs.Wanted.{HasFeatures, HasPartitions, HasWanted, IsAsWanted, IsMakeFault, IsMmcBeside, IsSdBeside}
 use Rattle.card_maker.specs.declared.csd.TheConstants.{MMC_FIXED, V1_FIXED, V2_FIXED}

@@ -14,12 +14,13 @@ use Rattle.mmc_card.specs.Profile.{IsByteAddressed, IsSectorAddressed}
 use Rattle.mmc_card_sim.specs.CardSpec.{has_access_mode, has_ocr}
 use Rattle.mmc_card_sim.specs.Registers.{made_of}
 use Rattle.card_maker.specs.NewExtCsd.{new_ext_csd}
-use Rattle.card_maker.specs.NewRegisters.{checked_register, csd_by_blocks, mmc_registers}
+use Rattle.mmc_regs.specs.Register.{checked_register}
+use Rattle.card_maker.specs.NewRegisters.{csd_by_blocks, mmc_registers}
 use Rattle.card_maker.specs.Sizes.{IsCardOf, SaysCount}
 use Rattle.card_maker.specs.Wanted.{HasMmcFeatures, HasPartitions}
 use Rattle.card_maker.specs.declared.csd.TheConstants.{MMC_FIXED}
 use Rattle.card_maker.specs.declared.wanted.Wanted.{Wanted}
-use Rattle.card_maker.proofs.CheckedLemmas.{checked_bytes, checked_length}
+use Rattle.mmc_regs.proofs.CheckedLemmas.{checked_bytes, checked_length}
 use Rattle.card_maker.proofs.ExtLemmas.{ext_boot, ext_bytes, ext_gp, ext_gp_2, ext_gp_3, ext_gp_4, ext_length, ext_rev, ext_sector_size}
 use Rattle.card_maker.proofs.ExtLemmas.{ext_sectors, ext_speed, ext_unit, ext_unprotected}
 use Rattle.card_maker.proofs.FieldLemmas.{mmc_csd_says}

@@ -8,20 +8,21 @@ use Rattle.mmc_frame.specs.Flips.{AreBytes}
 use Rattle.mmc_frame.specs.declared.kind.Kind.TheVariants as Is
 use Rattle.mmc_regs.specs.Csd.{csd_from, csd_of, has_block_length, is_protected, sectors_of}
 use Rattle.mmc_regs.specs.CsdFields.{c_size, c_size_mult, ccc, class_10, csd_structure, perm_write_protect, read_bl_len, tmp_write_protect, write_bl_len}
-use Rattle.mmc_regs.specs.Register.{checked_number, register_number}
+use Rattle.mmc_regs.specs.Register.{checked_number, checked_register, register_number}
 use Rattle.mmc_regs.specs.declared.csd.Csd.TheVariants.{V1, V2}
 use Rattle.mmc_regs.specs.Scr.{four_lines, scr_number, sd_spec, set_block_count}
 use Rattle.mmc_regs.specs.SwitchStatus.{high_speed_support}
 use Rattle.mmc_card.proofs.ByteLemmas.{bytes_by}
+use Rattle.mmc_card_sim.specs.CardSpec.{HasWidths}
 use Rattle.mmc_card_sim.specs.Registers.{switch_status_by}
 use Rattle.mmc_card.specs.Made.{is_read_only, or_none}
 use Rattle.mmc_card_sim.specs.Registers.{made_of}
-use Rattle.card_maker.specs.NewRegisters.{bit, checked_register, csd_by_blocks, csd_v2, new_scr, sd_classes, sd_registers}
+use Rattle.card_maker.specs.NewRegisters.{bit, csd_by_blocks, csd_v2, new_scr, sd_classes, sd_registers}
 use Rattle.card_maker.specs.Sizes.{IsCardOf, SaysCount}
 use Rattle.card_maker.specs.Wanted.{HasSdFeatures}
 use Rattle.card_maker.specs.declared.csd.TheConstants.{V1_FIXED, V2_FIXED}
 use Rattle.card_maker.specs.declared.wanted.Wanted.{Wanted}
-use Rattle.card_maker.proofs.CheckedLemmas.{checked_bytes, checked_end, checked_length, checked_sound}
+use Rattle.mmc_regs.proofs.CheckedLemmas.{checked_bytes, checked_end, checked_length, checked_sound}
 use Rattle.card_maker.proofs.FieldLemmas.{SaysBlocks, v1_csd_says, v2_csd_says}
 
 pub cond_yes : {A : Type 0} (b : Bool) (x y : A) → b ≡ true → cond b x y ≡ x
@@ -102,6 +103,18 @@ cmd23_by true false = refl
 cmd23_by false true = refl
 cmd23_by false false = refl
 
+pub sd_widths : (wanted : Wanted) (ocr cid number : ℕ) → ocr < 2 ^ 32
+    → HasWidths (sd_registers ocr (checked_register cid) (checked_register number)
+    (new_scr wanted.four_lines wanted.cmd23) wanted.high_speed)
+sd_widths wanted ocr cid number small = record {
+  ocr = small;
+  cid = checked_length cid;
+  csd = checked_length number;
+  cid_bytes = checked_bytes cid;
+  csd_bytes = checked_bytes number;
+  own = (refl, scr_bytes wanted.four_lines wanted.cmd23);
+}
+
 -- what is said of a card whose classes are these, and whose SCR is this
 sd_features : (wanted : Wanted) (ocr cid number : ℕ)
     → ccc (register_number (checked_register number)) ≡ sd_classes wanted.high_speed
@@ -137,14 +150,7 @@ v1_card wanted sectors read size mult cid number count small is =
     let csd : csd_of Is.Sd n ≡ Ok (V1 n) = v1_taken n says.1 read_length write_length in
     record {
       kind_is = refl;
-      widths = record {
-        ocr = omega arith;
-        cid = checked_length cid;
-        csd = checked_length number;
-        cid_bytes = checked_bytes cid;
-        csd_bytes = checked_bytes number;
-        own = (refl, scr_bytes wanted.four_lines wanted.cmd23);
-      };
+      widths = sd_widths wanted _ cid number (omega arith);
       taken = and_from _ _ (ap is_ok (checked_taken cid))
           (and_from _ _ (ap (λ r. is_ok (csd_from Is.Sd r)) (checked_taken number) ∙ ap is_ok csd) refl);
       in_profile = record {
@@ -180,14 +186,7 @@ v2_card wanted sectors cid number large unit most is =
     let whole : (sectors / 1024 - 1 + 1) * 1024 ≡ sectors = omega arith in
     record {
       kind_is = refl;
-      widths = record {
-        ocr = omega arith;
-        cid = checked_length cid;
-        csd = checked_length number;
-        cid_bytes = checked_bytes cid;
-        csd_bytes = checked_bytes number;
-        own = (refl, scr_bytes wanted.four_lines wanted.cmd23);
-      };
+      widths = sd_widths wanted _ cid number (omega arith);
       taken = and_from _ _ (ap is_ok (checked_taken cid))
           (and_from _ _ (ap (λ r. is_ok (csd_from Is.Sd r)) (checked_taken number) ∙ ap is_ok csd) refl);
       in_profile = record {

@@ -1,13 +1,7 @@
 -- The registers of a new card, by their fields at their bits.
-use Rattle.std.specs.Prelude.{ℕ, ◌+◌, ◌*◌, ◌/◌, ◌^◌, List, [], ◌∷◌, Bool, false, true, if◌then◌else◌}
-use Rattle.byteorder.specs.Endian.{big_bytes}
-use Rattle.mmc_frame.specs.RegisterFrame.{with_check}
+use Rattle.std.specs.Prelude.{ℕ, ◌+◌, ◌*◌, ◌^◌, List, [], ◌∷◌, Bool, false, true, if◌then◌else◌}
 use Rattle.mmc_card_rows.specs.declared.registers.KindRegisters.TheVariants.{Mmc, Sd}
 use Rattle.mmc_card_rows.specs.declared.registers.Registers.{Registers}
-
--- the register with bits 127 to 8 of this number, and its check
-unfoldable pub checked_register : ℕ → List ℕ
-checked_register number = with_check (big_bytes 15 (number / 256))
 
 abbrev pub bit : Bool → ℕ
 bit set = if set then 1 else 0

@@ -3,7 +3,8 @@ ghost use Rattle.std.specs.Prelude.{◌≡◌, ◌≤◌, false, IfErr, IfOk, On
 ghost use Rattle.mmc_card_sim.specs.CardSpec.{refusal_of, sizes_of};
 ghost use Rattle.mmc_card_sim.specs.Sizes.{total};
 ghost use Rattle.mmc_card_sim.specs.declared.spec.TheConstants.{MAX_SECTORS};
-ghost use Rattle.card_maker.specs.NewRegisters.{checked_register, mmc_registers, new_scr, sd_classes, sd_registers};
+ghost use Rattle.mmc_regs.specs.Register.{checked_register};
+ghost use Rattle.card_maker.specs.NewRegisters.{mmc_registers, new_scr, sd_classes, sd_registers};
 ghost use Rattle.card_maker.specs.Plain.{HasFirstRca, IsPlain};
 ghost use Rattle.card_maker.specs.Sizes.{IsByteCount, IsCount, IsSectorCount};
 ghost use Rattle.mmc_ext_csd.specs.Partition.{addressable_sectors};

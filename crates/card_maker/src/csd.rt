@@ -1,6 +1,7 @@
 // The CSD of a new card.
 ghost use Rattle.std.specs.Prelude.{◌≡◌, ◌*◌, ◌<◌, ◌^◌};
-ghost use Rattle.card_maker.specs.NewRegisters.{checked_register, csd_by_blocks, csd_v2};
+ghost use Rattle.mmc_regs.specs.Register.{checked_register};
+ghost use Rattle.card_maker.specs.NewRegisters.{csd_by_blocks, csd_v2};
 ghost use Rattle.card_maker.specs.declared.csd.TheConstants.{MMC_FIXED, V1_FIXED, V2_FIXED};
 
 use byteorder::{BigEndian, ByteOrder};

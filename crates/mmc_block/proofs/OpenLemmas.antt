@@ -38,6 +38,7 @@ lasting_info limits made info k = record {
   addressing = k.addressing;
   rca = λ mmc. refl;
   cid = k.cid;
+  says = k.says;
   csd = k.csd;
   sizes = k.sizes;
   read_only = k.read_only;

@@ -16,6 +16,7 @@ use Rattle.mmc_card.specs.declared.exchange.Reply.TheVariants as Came
 use Rattle.mmc_bus.specs.declared.host.Unheard.{Unheard}
 use Rattle.mmc_bus.specs.declared.host.Unheard.TheVariants.{Unsound}
 use Rattle.mmc_card.proofs.Conditions.{by_cond, neither}
+use Rattle.mmc_card.proofs.ToldLemmas.{told_registers}
 use Rattle.mmc_card.specs.CardAnswer.{CardAnswer, Checked, Choice, Silent, R3, R2, raised, refused, shown, status}
 use Rattle.mmc_card.specs.ErrorBits.{block_len_error, erase_param}
 use Rattle.mmc_card.specs.Card.{Both, Card, First, Held, NoAddress, is_in}
@@ -105,7 +106,9 @@ row_answer choice SendOpCond c index argument r = inquired_answer SendOpCond (no
 row_answer choice SdSendOpCond c index argument r = inquired_answer SdSendOpCond
     (is_served c argument && not choice.is_slow) c refl
 row_answer choice AllSendCid c index argument r = record { size = r.cid; check = r.cid_check; end_bit = r.cid_end }
-row_answer choice SendCsd c index argument r = record { size = r.csd; check = r.csd_check; end_bit = r.csd_end }
+row_answer choice SendCsd c index argument r =
+    let told = told_registers choice.is_protected c.made r in
+    record { size = told.csd; check = told.csd_check; end_bit = told.csd_end }
 row_answer choice SendIfCond c index argument r = by_cond (IsAnswerTo SendIfCond)
     (field 11 8 argument == 1) {x = Checked 8 (field 11 0 argument)} {y = Silent} (λ _. refl) (λ _. tt)
 row_answer choice SendStatus c index argument r =

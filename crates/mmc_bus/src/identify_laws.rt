@@ -9,6 +9,7 @@ ghost use Rattle.mmc_frame.specs.declared.commands.TheConstants as Index;
 ghost use Rattle.mmc_bus.specs.declared.host.Unheard.{Unheard};
 ghost use Rattle.mmc_card.specs.CardAnswer.{busied, done, refused, reset, shown};
 ghost use Rattle.mmc_card.specs.Judged.{Shows};
+ghost use Rattle.mmc_card.specs.Made.{IsToldCsd};
 ghost use Rattle.mmc_card.specs.Card.{IsCard, NoAddress, is_identified};
 ghost use Rattle.mmc_bus.specs.CommandLaws.{AsksStatus, Does, Inquires, IsUnheard, Names, Responded, ShowsNoError, Whatever};
 ghost use Rattle.mmc_card.specs.Faults.{NoFault};
@@ -100,11 +101,11 @@ pub fn cmd8_is_repeated_by_a_card_that_knows_it()
         → old.card.made.kind ≡ Mmc → old.card.state ≡ Idle → IsUnheard (refused old.card) old heard new }
 {}
 
-/// CMD9, SEND_CSD: a card in stby that is named tells its CSD.
+/// CMD9, SEND_CSD: a card in stby that is named tells its CSD, in which TMP_WRITE_PROTECT may have come on.
 pub fn cmd9_tells_the_csd()
     ensures { (old new : BusView) (argument : ℕ) (heard : Result (List ℕ) Unheard)
         → CommandFacts register_of old Index.SEND_CSD argument heard new → IsCard old.card
-        → Does Whatever ((old.card.state ≡ Stby) × Names argument old.card) (λ card csd. csd ≡ card.made.csd) (done old.card) old heard new }
+        → Does Whatever ((old.card.state ≡ Stby) × Names argument old.card) (λ card csd. IsToldCsd card.made csd) (done old.card) old heard new }
 {
     laws::register_comes_back();
 }

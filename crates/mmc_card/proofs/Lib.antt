@@ -21,3 +21,4 @@ pub mod Standing
 pub mod StatusLemmas
 pub mod Steps
 pub mod Switching
+pub mod ToldLemmas

@@ -39,6 +39,8 @@ pub record Choice : Type 0 where
   pub says_late : Bool
   -- which error bits a command finds, so that it isn't carried out
   pub finds : ℕ
+  -- the CSD that it tells says TMP_WRITE_PROTECT
+  pub is_protected : Bool
   -- CMD12 that ends a read leaves the card busy
   pub stays_busy : Bool
   -- CMD12 is answered in tran too

@@ -8,7 +8,7 @@ use Rattle.mmc_frame.specs.declared.addressing.Addressing.{Addressing}
 use Rattle.mmc_frame.specs.declared.addressing.Addressing.TheVariants as By
 use Rattle.mmc_frame.specs.declared.kind.Kind.{Kind}
 use Rattle.mmc_frame.specs.declared.kind.Kind.TheVariants.{Mmc, Sd}
-use Rattle.mmc_regs.specs.Csd.{csd_of, erase_unit_of, is_protected, may_switch, sectors_of}
+use Rattle.mmc_regs.specs.Csd.{csd_of, erase_unit_of, is_protected, may_switch, protected_csd, sectors_of}
 use Rattle.mmc_regs.specs.CsdFields.{read_bl_len}
 use Rattle.mmc_regs.specs.Ocr.{access_mode, card_capacity_status}
 use Rattle.mmc_regs.specs.Register.{register_number}
@@ -93,6 +93,18 @@ is_misaligned made address = not (has_sector_addresses made) && not (address % 5
 
 abbrev pub csd_number_of : Made → ℕ
 csd_number_of made = register_number made.csd
+
+-- The CSD that a card tells: its own, or one in which TMP_WRITE_PROTECT has come on by itself (SD Physical Layer 6.00, sections
+-- 5.3.2 and 5.3.3; JESD84-B51, section 7.3).
+abbrev pub csd_told : Bool → Made → List ℕ
+csd_told says made = if says then protected_csd made.csd else made.csd
+
+abbrev pub IsToldCsd : Made → List ℕ → Type 0
+IsToldCsd made csd = (says : Bool) × (csd ≡ csd_told says made)
+
+-- the card, as it tells of itself
+abbrev pub as_told : Bool → Made → Made
+as_told says made = record made { csd = csd_told says made }
 
 -- what a CSD says, and 0 where it is refused
 abbrev pub or_none : (Csd → ℕ) → Result Csd RegFault → ℕ

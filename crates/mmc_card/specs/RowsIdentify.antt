@@ -10,6 +10,7 @@ use Rattle.mmc_regs.specs.Ocr.{card_capacity_status}
 use Rattle.mmc_card.specs.CardAnswer.{CardAnswer, Checked, Choice, Silent, R3, R2, busied, counted, done, published}
 use Rattle.mmc_card.specs.CardAnswer.{r6_argument, reset, shown, status}
 use Rattle.mmc_card.specs.Card.{Card, is_in}
+use Rattle.mmc_card.specs.Made.{csd_told}
 
 -- CMD0, GO_IDLE_STATE
 abbrev pub go_idle_state : Choice → Card → Card × CardAnswer
@@ -71,8 +72,8 @@ send_if_cond card argument = (
 )
 
 -- CMD9, SEND_CSD
-abbrev pub send_csd : Card → Card × CardAnswer
-send_csd card = (done card, R2 card.made.csd)
+abbrev pub send_csd : Choice → Card → Card × CardAnswer
+send_csd choice card = (done card, R2 (csd_told choice.is_protected card.made))
 
 -- After CMD7, CMD12 and its programming a card's status may still show it on its way to tran (the project's own). How often
 -- it does is counted with the polls of its busy time that were answered yes.

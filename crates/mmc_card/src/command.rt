@@ -1,6 +1,6 @@
 ghost use Rattle.std.specs.Prelude.{◌≡◌, Bool};
 ghost use Rattle.mmc_frame.specs.declared.kind.Kind.{Kind};
-ghost use Rattle.mmc_card.specs.Rows.{command_of, is_addressed, leaves_erase};
+ghost use Rattle.mmc_card.specs.Rows.{command_of, is_addressed, leaves_erase, may_find};
 ghost use Rattle.mmc_card.specs.Wanted.{response_to};
 
 use crate::exchange::Want;
@@ -85,6 +85,31 @@ pub fn leaves_erase(command: Command) -> bool
         command,
         Command::SendStatus | Command::EraseStart | Command::EraseEnd | Command::Erase
     )
+}
+
+/// Whether an error may keep a command from being carried out: all with an R1 but CMD7, CMD12 and CMD13.
+pub fn may_find(command: Command) -> bool
+    ensures { result ≡ may_find command }
+{
+    match command {
+        Command::SetRelativeAddr
+        | Command::SendExtCsd
+        | Command::SetBlocklen
+        | Command::ReadSingleBlock
+        | Command::ReadMultipleBlock
+        | Command::SetBlockCount
+        | Command::WriteBlock
+        | Command::WriteMultipleBlock
+        | Command::EraseStart
+        | Command::EraseEnd
+        | Command::Erase
+        | Command::Switch
+        | Command::SwitchFunc
+        | Command::SetBusWidth
+        | Command::SendScr
+        | Command::AppCmd => true,
+        _ => false,
+    }
 }
 
 /// The response that a host wants of the command with this index, of whichever kind the card is, and whether the

@@ -9,7 +9,7 @@ pub mod laws;
 mod part;
 mod response;
 
-pub use command::{Command, is_addressed, leaves_erase, wanted};
+pub use command::{Command, is_addressed, leaves_erase, may_find, wanted};
 pub use command_row::{Carried, CommandRow, row_of};
 pub use exchange::{DataIn, DataOut, Exchange, Lines, Reply, Timing, Want, Width};
 pub use part::Part;

@@ -88,6 +88,7 @@ choice_of is_slow = record {
   fails_switch = false;
   says_late = false;
   finds = 0;
+  is_protected = false;
   stays_busy = false;
   answers_stop = false;
   drops_quietly = false;

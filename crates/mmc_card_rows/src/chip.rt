@@ -7,8 +7,9 @@ ghost use Rattle.mmc_card.specs.Made.{erase_unit_of_card, first_rca, is_read_onl
 ghost use Rattle.mmc_card_rows.specs.Registers.{made_of};
 
 use crate::answer::Answer;
-use crate::command::{command_of, may_find};
+use crate::command::command_of;
 use crate::delays::Delays;
+use crate::fault::FIRST_ERROR;
 use crate::registers::Registers;
 use crate::status_bits::bits_if;
 use crate::store::Store;
@@ -22,9 +23,6 @@ pub const PATIENCE: u8 = 15;
 
 // CURRENT_STATE in a status, from bit 9 on.
 const CURRENT_STATE: u32 = 0x200;
-
-/// The lowest error bit in a status, bit 13.
-pub const FIRST_ERROR: u32 = 0x2000;
 
 /// The addresses that an erase is to go by.
 #[derive(Clone, Copy, Debug)]
@@ -162,12 +160,8 @@ impl Chip {
     ghost use Rattle.mmc_card_rows.specs.Store.{parts_of, values_of};
     ghost use Rattle.std.specs.Prelude.{[], None};
     ghost use Rattle.mmc_card.specs.Rows.{answered, hindered, is_foreign, is_legal, obeyed, reached, respond, row};
-    ghost use Rattle.mmc_card.specs.Faults.{is_switch_frame};
-    ghost use Rattle.mmc_card_rows.specs.Finding.{can_find};
-    ghost use Rattle.mmc_card_rows.specs.Transfers.{is_write_frame};
     ghost use Rattle.mmc_card.specs.RowsSwitch.{switch_row};
     ghost use Rattle.mmc_card.specs.declared.command.Command.TheVariants.{Switch};
-    ghost use Rattle.mmc_frame.specs.declared.card_state.State.TheVariants.{Tran};
 
     /// A card after power on. What its registers say is given beside them: the erase unit in sectors, write protection,
     /// and the block length that they name, in bytes.
@@ -321,8 +315,8 @@ impl Chip {
         number_of(self.state) >= 3 && !self.is_in(State::Dis)
     }
 
-    // Whether a command is carried out.
-    fn is_legal(&self, command: Command) -> bool
+    /// Whether the card's state and registers let a command be carried out.
+    pub fn is_legal(&self, command: Command) -> bool
         ensures { result ≡ is_legal command (card_of self.now) }
     {
         match command {
@@ -412,8 +406,8 @@ impl Chip {
         }
     }
 
-    // Whether a command names another card.
-    fn is_foreign(&self, command: Command, argument: u32) -> bool
+    /// Whether a command names another card.
+    pub fn is_foreign(&self, command: Command, argument: u32) -> bool
         ensures { result ≡ is_foreign command (card_of self.now) argument }
     {
         is_addressed(command) && argument / 0x1_0000 != u32::from(self.rca)
@@ -435,48 +429,6 @@ impl Chip {
             self.obey(delays, command, index, argument)
         } else {
             self.refuse()
-        }
-    }
-
-    /// Whether a frame is a switch of an eMMC device that the card knows.
-    pub fn is_switch(&self, frame: &[u8; 6]) -> bool
-        ensures { result ≡ is_switch_frame (card_of self.now) (command_in frame.now) }
-    {
-        match read_command(frame) {
-            Some((index, argument)) => {
-                let command = command_of(self.registers.kind(), self.is_app, index);
-                matches!(command, Command::Switch)
-                    && self.is_in(State::Tran)
-                    && self.switched(argument).is_some()
-            }
-            None => false,
-        }
-    }
-
-    /// Whether a frame is CMD24 or CMD25, in tran.
-    pub fn is_write(&self, frame: &[u8; 6]) -> bool
-        ensures { result ≡ (is_write_frame (card_of self.now) (command_in frame.now) && is_in self.now.state Tran) }
-    {
-        match read_command(frame) {
-            Some((index, _)) => {
-                let command = command_of(self.registers.kind(), self.is_app, index);
-                matches!(command, Command::WriteBlock | Command::WriteMultipleBlock)
-                    && self.is_in(State::Tran)
-            }
-            None => false,
-        }
-    }
-
-    /// Whether a frame is a command to this card, legal now, that an error may keep from being carried out.
-    pub fn can_find(&self, frame: &[u8; 6]) -> bool
-        ensures { result ≡ can_find (card_of self.now) (command_in frame.now) }
-    {
-        match read_command(frame) {
-            Some((index, argument)) => {
-                let command = command_of(self.registers.kind(), self.is_app, index);
-                may_find(command) && !self.is_foreign(command, argument) && self.is_legal(command)
-            }
-            None => false,
         }
     }
 

@@ -1,6 +1,6 @@
-// Which command an index names, and which commands may find an error.
+// Which command an index names.
 ghost use Rattle.std.specs.Prelude.{◌≡◌};
-ghost use Rattle.mmc_card.specs.Rows.{command_of, may_find};
+ghost use Rattle.mmc_card.specs.Rows.{command_of};
 
 use mmc_card::Command;
 use mmc_frame::Kind::{self, Mmc, Sd};
@@ -41,30 +41,5 @@ pub fn command_of(kind: Kind, is_app: bool, index: u8) -> Command
         (Sd, commands::SEND_SCR) if is_app => Command::SendScr,
         (_, commands::APP_CMD) => Command::AppCmd,
         _ => Command::Unknown,
-    }
-}
-
-/// Whether an error may keep a command from being carried out: all with an R1 but CMD7, CMD12 and CMD13.
-pub fn may_find(command: Command) -> bool
-    ensures { result ≡ may_find command }
-{
-    match command {
-        Command::SetRelativeAddr
-        | Command::SendExtCsd
-        | Command::SetBlocklen
-        | Command::ReadSingleBlock
-        | Command::ReadMultipleBlock
-        | Command::SetBlockCount
-        | Command::WriteBlock
-        | Command::WriteMultipleBlock
-        | Command::EraseStart
-        | Command::EraseEnd
-        | Command::Erase
-        | Command::Switch
-        | Command::SwitchFunc
-        | Command::SetBusWidth
-        | Command::SendScr
-        | Command::AppCmd => true,
-        _ => false,
     }
 }

@@ -3,14 +3,14 @@ ghost use Rattle.std.specs.Prelude.{◌%◌, ◌+◌, ◌-◌, ◌^◌, ◌≡�
 ghost use Rattle.mmc_frame.specs.Frame.{command_in};
 ghost use Rattle.mmc_card_rows.specs.Chip.{aged, is_reset};
 
-use crate::chip::{FIRST_ERROR, number_of};
-use crate::command::may_find;
-use mmc_card::Command;
+use crate::chip::number_of;
+use crate::fault::{EXECUTION_ERRORS, FIRST_ERROR};
+use mmc_card::{Command, may_find};
 use mmc_frame::commands::GO_IDLE_STATE;
 use mmc_frame::{State, read_command};
 
 // The error bits that carrying a command out may raise, in units of bit 13.
-const EXECUTION_ERRORS: u32 = 0x7_61cc;
+const FOUND: u32 = EXECUTION_ERRORS / FIRST_ERROR;
 
 /// How an SD card refuses to switch to high speed: the function that its switch status selects then.
 #[derive(Clone, Copy, Debug, PartialEq, Eq)]
@@ -122,7 +122,7 @@ impl Delays {
         ensures known { AreAmong result execution_error_bits }
     {
         let bits = self.finds / FIRST_ERROR;
-        if may_find(command) && bits | EXECUTION_ERRORS == EXECUTION_ERRORS {
+        if may_find(command) && bits | FOUND == FOUND {
             bits
         } else {
             0

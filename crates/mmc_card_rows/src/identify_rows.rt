@@ -32,7 +32,7 @@ impl Chip {
     ghost use Rattle.mmc_card.specs.RowsIdentify.{sd_send_op_cond, select_card, send_csd, send_if_cond, send_op_cond};
     ghost use Rattle.mmc_card.specs.RowsIdentify.{may_lag, send_relative_addr, send_status, set_relative_addr};
     ghost use Rattle.mmc_card.specs.Made.{named_block_length};
-    ghost use Rattle.mmc_card_rows.specs.Chip.{Answers, card_of, command_choice};
+    ghost use Rattle.mmc_card_rows.specs.Chip.{Answers, card_of, choice_of, command_choice};
 
     /// All but the sectors and the block length is as after power on; what was unfinished is over.
     pub fn start_over(&mut self, keeps_length: bool)
@@ -236,7 +236,7 @@ impl Chip {
 
     /// CMD9.
     pub fn send_csd(&mut self) -> Answer
-        ensures { Answers (send_csd (card_of self.old)) self.new result }
+        ensures { Answers (send_csd (choice_of false) (card_of self.old)) self.new result }
     {
         self.finish();
         Answer::R2(self.registers.csd)

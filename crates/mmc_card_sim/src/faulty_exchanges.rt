@@ -1,8 +1,7 @@
 // The exchanges of the card in memory, each with the fault that is planned for it, if any. A fault falls where it fits
 // its exchange; otherwise the exchange is a faithful step. Each answers beside its result whether the fault fell.
 ghost use Rattle.std.specs.Prelude.{◌/◌, ◌^◌, ◌≡◌, Some, length, true};
-ghost use Rattle.mmc_card_rows.specs.FaultErrors.{are_of_execution};
-ghost use Rattle.mmc_card_sim.specs.declared.fault.Fault.TheVariants.{FindError, FindProtection, FlipReply, LoseReply};
+ghost use Rattle.mmc_card_sim.specs.declared.fault.Fault.TheVariants.{FlipReply, LoseReply};
 ghost use Rattle.mmc_card.specs.CardAnswer.{raised};
 ghost use Rattle.mmc_card_sim.specs.FaultyExchanges.{Commands, Polls, Reads, Spoils, Writes, can_fail_early, can_fail_with};
 ghost use Rattle.mmc_card_sim.specs.FaultyExchanges.{after_time, failed, fits_time, heeded, is_slow_at};
@@ -12,22 +11,11 @@ ghost use Rattle.mmc_card_rows.specs.Chip.{Answers, card_of, finding};
 use crate::fault::{Fault, Flips};
 use crate::flip::{can_flip, heard_flipped, is_flip};
 use mmc_card::{DataIn, DataOut, Lines, Reply};
-use mmc_card_rows::{Answer, Chip, Delays, Outcome, PATIENCE};
+use mmc_card_rows::{Answer, Chip, Delays, Outcome, PATIENCE, is_of_execution};
 use mmc_frame::State;
-
-// The error bits that carrying a command out may raise.
-const EXECUTION_ERRORS: u32 = 0xec39_8000;
 
 // WP_VIOLATION in a status.
 const PROTECTION: u32 = 0x0400_0000;
-
-/// Whether these are error bits that carrying a command out may raise, one at least (SD Physical Layer 6.00, section 4.10.1;
-/// JESD84-B51, section 6.13).
-pub fn is_of_execution(bits: u32) -> bool
-    ensures { result ≡ are_of_execution bits }
-{
-    bits | EXECUTION_ERRORS == EXECUTION_ERRORS && bits >= 0x2000
-}
 
 // The answer to a command, as it is sent.
 fn heed(chip: &mut Chip, delays: Delays, frame: &[u8; 6]) -> Answer
@@ -70,30 +58,6 @@ fn heed_finding(chip: &mut Chip, delays: Delays, frame: &[u8; 6], bits: u32) -> 
     heed(chip, finding, frame)
 }
 
-// The response to a command, of which a write finds its sectors protected.
-fn command_protected(chip: &mut Chip, delays: Delays, frame: &[u8; 6]) -> (Reply, bool)
-    ensures { Commands (Some FindProtection) delays (card_of chip.old) frame.now result.0 result.1
-        (card_of chip.new) }
-{
-    if !chip.is_write(frame) {
-        return (heed(chip, delays, frame).spelled(), false);
-    }
-    let answer = heed_finding(chip, delays, frame, PROTECTION);
-    (answer.spelled(), true)
-}
-
-// The response to a command that finds these errors, if one may keep it from being carried out.
-fn command_hindered(chip: &mut Chip, delays: Delays, frame: &[u8; 6], bits: u32) -> (Reply, bool)
-    ensures { Commands (Some (FindError bits)) delays (card_of chip.old) frame.now result.0 result.1
-        (card_of chip.new) }
-{
-    if !is_of_execution(bits) || !chip.can_find(frame) {
-        return (heed(chip, delays, frame).spelled(), false);
-    }
-    let answer = heed_finding(chip, delays, frame, bits);
-    (answer.spelled(), true)
-}
-
 /// The response to a command.
 #[tactic(auto, using(mmc_card_rows::proofs::ChipLemmas::execution_is_error))]
 pub fn faulty_command(
@@ -122,8 +86,14 @@ pub fn faulty_command(
             let _ = chip.fail_switch(false);
             (Reply::Silent, true)
         }
-        Some(Fault::FindProtection) => command_protected(chip, delays, frame),
-        Some(Fault::FindError(bits)) => command_hindered(chip, delays, frame, bits),
+        Some(Fault::FindProtection) if chip.is_write(frame) => {
+            let answer = heed_finding(chip, delays, frame, PROTECTION);
+            (answer.spelled(), true)
+        }
+        Some(Fault::FindError(bits)) if is_of_execution(bits) && chip.can_find(frame) => {
+            let answer = heed_finding(chip, delays, frame, bits);
+            (answer.spelled(), true)
+        }
         Some(Fault::LeaveOver(error)) => {
             chip.leave_over(error);
             (heed(chip, delays, frame).spelled(), true)

@@ -12,11 +12,11 @@ mod sim_card;
 mod spec;
 
 pub use fault::{Fault, Flips};
-pub use faulty_exchanges::is_of_execution;
 pub use flip::is_flip;
 pub use judging::{Judged, judge};
 pub use mmc_card_rows::{
     CommandError, KindRegisters, MAX_LARGE, MmcRegisters, Outcome, Refusal, Registers, SdRegisters,
+    is_of_execution,
 };
 pub use plan::{MAX_PLANNED, Plan, PlanFault, Planned};
 pub use sim_card::SimCard;

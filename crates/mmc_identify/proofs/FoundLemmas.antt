@@ -14,7 +14,8 @@ use Rattle.mmc_regs.specs.declared.csd.Csd.{Csd}
 use Rattle.mmc_regs.specs.declared.csd.Csd.TheVariants.{Mmc, V1, V2}
 use Rattle.mmc_regs.specs.declared.fault.RegFault.{RegFault}
 use Rattle.mmc_card.specs.BusView.{BusView}
-use Rattle.mmc_card.specs.Made.{HasRegisters, Made, addressing_of, csd_number_of}
+use Rattle.mmc_card.proofs.ToldLemmas.{told_profile, told_registers}
+use Rattle.mmc_card.specs.Made.{HasRegisters, Made, addressing_of, as_told, csd_number_of}
 use Rattle.mmc_card.specs.Profile.{InProfile, IsHighCapacity, IsStandardCapacity}
 use Rattle.mmc_bus.specs.Work.{Moved}
 use Rattle.mmc_bus.proofs.WorkLemmas.{both, fell, moved_as, refuted}
@@ -68,13 +69,19 @@ cid_taken made registers = rw registers.cid_check (rw registers.cid_end refl)
 abbrev own_found : ℕ → Made → Result Found IdentFault
 own_found rca made = judged.found made.kind (ready_ocr made) rca made.cid made.csd
 
-abbrev IsFoundAs : ℕ → Made → Found → Type 0
-IsFoundAs rca made found = IsFound made found × (found.rca ≡ rca)
+-- what was found, of a card with these registers
+record IsFoundOf (rca : ℕ) (made : Made) (found : Found) : Type 0 where
+  kind : found.kind ≡ made.kind
+  addressing : found.addressing ≡ addressing_of made
+  goes : IsRcaOf made found.rca
+  cid : found.cid ≡ register_number made.cid
+  csd : csd_in made.kind made.csd ≡ Ok found.csd
+  is_rca : found.rca ≡ rca
 
 with_own : (rca : ℕ) (made : Made) (csd : Csd) (by : Result Addressing IdentFault) (found : Found) → HasRegisters made
     → IsRcaOf made rca
     → csd_in made.kind made.csd ≡ Ok csd → judged.addressing made.kind (ready_ocr made) csd ≡ by
-    → judged.found_with made.kind rca (register_number made.cid) csd by ≡ Ok found → IsFoundAs rca made found
+    → judged.found_with made.kind rca (register_number made.cid) csd by ≡ Ok found → IsFoundOf rca made found
 with_own rca made csd (Ok addressing) found registers goes sound e h =
     let is : record {
       kind = made.kind;
@@ -83,32 +90,30 @@ with_own rca made csd (Ok addressing) found registers goes sound e h =
       cid = register_number made.cid;
       csd = csd;
     } ≡ found = cc h in
-    subst (IsFoundAs rca made) is (
-      record {
-        kind = refl;
-        addressing = addressing_by made.kind made csd addressing registers.ocr refl e;
-        rca = goes;
-        cid = refl;
-        csd = sound;
-      },
-      refl,
-    )
+    subst (IsFoundOf rca made) is (record {
+      kind = refl;
+      addressing = addressing_by made.kind made csd addressing registers.ocr refl e;
+      goes = goes;
+      cid = refl;
+      csd = sound;
+      is_rca = refl;
+    })
 with_own rca made csd (Err fault) found registers goes sound e h = cc h
 
 parts_own : (rca : ℕ) (made : Made) (csd : Result Csd RegFault) (found : Found) → HasRegisters made → IsRcaOf made rca
     → csd_in made.kind made.csd ≡ csd
     → judged.found_by made.kind (ready_ocr made) rca (Ok (register_number made.cid)) csd ≡ Ok found
-    → IsFoundAs rca made found
+    → IsFoundOf rca made found
 parts_own rca made (Ok csd) found registers goes e h = with_own rca made csd _ found registers goes e refl h
 parts_own rca made (Err fault) found registers goes e h = cc h
 
 found_is : (rca : ℕ) (made : Made) (found : Found) → HasRegisters made → IsRcaOf made rca
-    → own_found rca made ≡ Ok found → IsFoundAs rca made found
+    → own_found rca made ≡ Ok found → IsFoundOf rca made found
 found_is rca made found registers goes h =
     parts_own rca made (csd_in made.kind made.csd) found registers goes refl (rw (cid_taken made registers) at h)
 
 found_own : (rca : ℕ) (made : Made) (r : Result Found IdentFault) → HasRegisters made → IsRcaOf made rca
-    → r ≡ own_found rca made → IfOk r (IsFoundAs rca made)
+    → r ≡ own_found rca made → IfOk r (IsFoundOf rca made)
 found_own rca made (Ok found) registers goes e = found_is rca made found registers goes (sym e)
 found_own rca made (Err fault) registers goes e = tt
 
@@ -209,10 +214,13 @@ take_fails kind ocr registers fault r a b c d err p q s =
     let all = came kind ocr registers (Err fault) a b c d p q s in
     moved_as a d all (IfOk-from_err r _ err) (λ same profile. cc (all.fine same profile))
 
-found_and_left : (made : Made) (r : Result Found IdentFault) (rca : ℕ) (d : BusView)
-    → IfOk r (IsFoundAs rca made) → IsLeft rca d.card → IfOk r (λ found. IsFound made found × IsLeft found.rca d.card)
-found_and_left made (Ok found) rca d is left = (is.0, subst (λ n. IsLeft n d.card) (sym is.1) left)
-found_and_left made (Err fault) rca d is left = tt
+found_and_left : (says : Bool) (made : Made) (r : Result Found IdentFault) (rca : ℕ) (d : BusView)
+    → IfOk r (IsFoundOf rca (as_told says made)) → IsLeft rca d.card → IfOk r (λ found. IsFound made found × IsLeft found.rca d.card)
+found_and_left says made (Ok found) rca d is left = (
+  record { kind = is.kind; addressing = is.addressing; rca = is.goes; cid = is.cid; says = says; csd = is.csd },
+  subst (λ n. IsLeft n d.card) (sym is.is_rca) left,
+)
+found_and_left says made (Err fault) rca d is left = tt
 
 pub identified : (kind : Kind) (ocr : ℕ) (registers : Registers) (r : Result Found IdentFault) (a b c d : BusView)
     → r ≡ judged.found kind ocr registers.rca registers.cid registers.csd → StandardTaken → HighTaken → MmcTaken
@@ -223,11 +231,14 @@ identified kind ocr registers r a b c d e standard high mmc p q s =
     let made = a.card.made in
     let told = all.own.2 in
     let own = all.was_card.registers in
-    let is : r ≡ own_found registers.rca made = e ∙ cc (all.own.0, all.own.1, told.cid, told.csd) in
+    let says = told.csd.0 in
+    let as_it_told = as_told says made in
+    let takes = told_registers says made own in
+    let is : r ≡ own_found registers.rca as_it_told = e ∙ cc (all.own.0, all.own.1, told.cid, told.csd.1) in
     moved_as a d all
-    (found_and_left made r registers.rca d (found_own registers.rca made r own told.rca is) (all.own.3 refl))
+    (found_and_left says made r registers.rca d (found_own registers.rca as_it_told r takes told.rca is) (all.own.3 refl))
     (λ same profile. subst IsOk (sym is)
-    (found_by_kind made.kind registers.rca made own profile standard high mmc refl))
+    (found_by_kind made.kind registers.rca as_it_told takes (told_profile says made own profile) standard high mmc refl))
 
 -- a card in profile is refused only where a fault fell
 pub refused : (r : Result Found IdentFault) (a b : BusView) → Identifies r a b → InProfile a.card.made → IsErr r

@@ -10,7 +10,7 @@ use Rattle.mmc_card.specs.declared.exchange.Lines.{Lines}
 use Rattle.mmc_card.specs.Blocks.{HasRested, rested}
 use Rattle.mmc_card.specs.BusView.{BusView}
 use Rattle.mmc_card.specs.Card.{Card, IsCard, is_in, is_selected, patience}
-use Rattle.mmc_card.specs.Made.{Made, is_sd}
+use Rattle.mmc_card.specs.Made.{IsToldCsd, Made, is_sd}
 use Rattle.mmc_card.specs.Profile.{InProfile}
 use Rattle.mmc_bus.specs.declared.cause.Cause.{Cause}
 use Rattle.mmc_bus.specs.Learned.{Stays, may_fail}
@@ -373,8 +373,8 @@ Addresses kind r a b =
 
 abbrev pub Describes : ℕ → Result (List ℕ) IdentFault → BusView → BusView → Type 0
 Describes rca r a b =
-    Moved (λ old new. IfOk r (λ csd. csd ≡ old.card.made.csd))
-    (λ old new. IsNamed rca old.card → (r ≡ Ok old.card.made.csd) × IsNamed rca new.card) a b
+    Moved (λ old new. IfOk r (λ csd. IsToldCsd old.card.made csd))
+    (λ old new. IsNamed rca old.card → IsOk r × IsNamed rca new.card) a b
 
 abbrev pub IsRegistered : Kind → Result Registers IdentFault → BusView → BusView → Type 0
 IsRegistered kind r a b =
@@ -396,9 +396,9 @@ address_fails kind cid fault r a b c err p q =
 described : (kind : Kind) (cid : List ℕ) (rca : ℕ) (r : Result (List ℕ) IdentFault) (a b c d : BusView)
     → Names (Ok cid) a b → Addresses kind (Ok rca) b c → Describes rca r c d
     → Moved (λ old new. old.card.made.kind ≡ kind
-    → (cid ≡ old.card.made.cid) × IsRcaOf old.card.made rca × IfOk r (λ csd. csd ≡ old.card.made.csd))
+    → (cid ≡ old.card.made.cid) × IsRcaOf old.card.made rca × IfOk r (λ csd. IsToldCsd old.card.made csd))
     (λ old new. InProfile old.card.made → old.card.made.kind ≡ kind → old.card.state ≡ Ready
-    → (r ≡ Ok old.card.made.csd) × IsNamed rca new.card) a d
+    → IsOk r × IsNamed rca new.card) a d
 described kind cid rca r a b c d p q s =
     let pair = both a b c p q in
     let all = both a c d pair s in
@@ -411,12 +411,12 @@ described kind cid rca r a b c d p q s =
     (λ is. (
       p.own,
       told is,
-      subst (λ (m : Made). IfOk r (λ csd. csd ≡ m.csd)) pair.stays.carried.made s.own,
+      subst (λ (m : Made). IfOk r (λ csd. IsToldCsd m csd)) pair.stays.carried.made s.own,
     ))
     (λ same profile is ready.
     let f = all.fine same in
     let named = f.0.1 (subst InProfile (sym made) profile) (is_kind is) (f.0.0 ready).1 in
-    let t = f.1 named in (subst (λ (m : Made). r ≡ Ok m.csd) pair.stays.carried.made t.0, t.1))
+    f.1 named)
 
 pub describe_fails : (kind : Kind) (cid : List ℕ) (rca : ℕ) (fault : IdentFault) (r : Result Registers IdentFault)
     (a b c d : BusView) → IsErr r → Names (Ok cid) a b → Addresses kind (Ok rca) b c

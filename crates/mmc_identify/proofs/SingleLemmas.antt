@@ -21,7 +21,7 @@ use Rattle.mmc_card.specs.CardAnswer.{Choice, bit, busied, done, reset, shown, s
 use Rattle.mmc_card.specs.CardLaws.{IsInOrder}
 use Rattle.mmc_card.specs.Faults.{NoFault, Passes, at_once, has_failed, has_fallen_short, has_rested, has_run}
 use Rattle.mmc_card.specs.RowsIdentify.{at_work}
-use Rattle.mmc_card.specs.Made.{Made}
+use Rattle.mmc_card.specs.Made.{IsToldCsd, Made}
 use Rattle.mmc_card.specs.Profile.{InProfile}
 use Rattle.mmc_bus.specs.CommandLaws.{Does, IsHeard, Names, ShowsNoError, TellsStatus, Whatever}
 use Rattle.mmc_card.specs.Judged.{Shows}
@@ -43,12 +43,12 @@ idle_reset lands keeps old new e = subst (IsIdle false false 0) (sym e) (record 
 -- Registers.
 
 -- what is heard of a register is the one that the card tells
-pub register_own : {IsThere : Type 0} (register : Made → List ℕ) (after : Card) (old : BusView)
+pub register_own : {IsThere : Type 0} (Is : Made → List ℕ → Type 0) (after : Card) (old : BusView)
     (heard : Result (List ℕ) Unheard) (new : BusView)
-    → Does Whatever IsThere (λ card bytes. bytes ≡ register card.made) after old heard new
-    → IfOk (judged.told_register heard) (λ bytes. bytes ≡ register old.card.made)
-register_own register after old (Ok bytes) new does = (does.sound bytes refl tt).0.is
-register_own register after old (Err unheard) new does = tt
+    → Does Whatever IsThere (λ card bytes. Is card.made bytes) after old heard new
+    → IfOk (judged.told_register heard) (Is old.card.made)
+register_own Is after old (Ok bytes) new does = (does.sound bytes refl tt).0.is
+register_own Is after old (Err unheard) new does = tt
 
 -- what is heard where it is determined
 heard_is : {X : Type 0} {is : X} {heard : Result X Unheard} → IsHeard (λ x. x ≡ is) heard → heard ≡ Ok is
@@ -118,9 +118,9 @@ assigned_fine old heard new does same ident =
 
 pub described_fine : (rca argument : ℕ) (old : BusView) (heard : Result (List ℕ) Unheard) (new : BusView)
     → field 31 16 argument ≡ rca
-    → Does Whatever ((old.card.state ≡ Stby) × Names argument old.card) (λ card csd. csd ≡ card.made.csd) (done old.card) old heard new
+    → Does Whatever ((old.card.state ≡ Stby) × Names argument old.card) (λ card csd. IsToldCsd card.made csd) (done old.card) old heard new
     → NoFault old new → IsNamed rca old.card
-    → (judged.told_register heard ≡ Ok old.card.made.csd) × IsNamed rca new.card
+    → IsOk (judged.told_register heard) × IsNamed rca new.card
 described_fine rca argument old heard new is_rca does same named =
     let f = does.fine same (named.state, is_rca ∙ sym named.is_rca) in
     let still : IsNamed rca (done old.card) = record {
@@ -131,7 +131,7 @@ described_fine rca argument old heard new is_rca does same named =
       errors = named.errors;
       switch_error = named.switch_error;
     } in
-    (ap judged.told_register (heard_is f.0), subst (IsNamed rca) (sym f.1) still)
+    (subst IsOk (sym (ap judged.told_register f.0.1)) refl, subst (IsNamed rca) (sym f.1) still)
 
 -- CMD7.
 

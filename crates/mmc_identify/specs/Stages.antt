@@ -11,7 +11,7 @@ use Rattle.mmc_card.specs.declared.exchange.Timing.TheVariants.{Default}
 use Rattle.mmc_card.specs.declared.exchange.Width.TheVariants.{One}
 use Rattle.mmc_card.specs.declared.part.Part.TheVariants.{User}
 use Rattle.mmc_card.specs.Card.{Card, NoAddress, is_selected, patience}
-use Rattle.mmc_card.specs.Made.{Made, addressing_of, is_sd}
+use Rattle.mmc_card.specs.Made.{IsToldCsd, Made, addressing_of, csd_told, is_sd}
 use Rattle.mmc_bus.specs.declared.status.Closing.{Closing}
 use Rattle.mmc_bus.specs.declared.status.Closing.TheVariants.{AtWork, Clean}
 use Rattle.mmc_identify.specs.declared.fault.IdentFault.{IdentFault}
@@ -113,10 +113,12 @@ pub record IsFound (made : Made) (found : Found) : Type 0 where
   pub addressing : found.addressing ≡ addressing_of made
   pub rca : IsRcaOf made found.rca
   pub cid : found.cid ≡ register_number made.cid
-  pub csd : csd_in made.kind made.csd ≡ Ok found.csd
+  -- as the card told it, with TMP_WRITE_PROTECT or as it is made
+  pub says : Bool
+  pub csd : csd_in made.kind (csd_told says made) ≡ Ok found.csd
 
 -- these registers are the card's own
 pub record HasTold (made : Made) (registers : Registers) : Type 0 where
   pub cid : registers.cid ≡ made.cid
   pub rca : IsRcaOf made registers.rca
-  pub csd : registers.csd ≡ made.csd
+  pub csd : IsToldCsd made registers.csd

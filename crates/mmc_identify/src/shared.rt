@@ -1,6 +1,7 @@
 // What identification does with cards of both kinds, one exchange a function.
 ghost use Rattle.std.specs.Prelude.{◌≡◌, ◌+◌, ◌<◌, ◌≤◌, IfOk, IsOk, Ok, false, ℕ};
 ghost use Rattle.mmc_frame.specs.declared.card_state.State.TheVariants.{Ident, Ready};
+ghost use Rattle.mmc_card.specs.Made.{IsToldCsd};
 ghost use Rattle.mmc_card.specs.Profile.{InProfile};
 ghost use Rattle.mmc_bus.specs.Work.{Moves};
 ghost use Rattle.mmc_bus.specs.declared.wait.TheConstants.{MAX_POLLS};
@@ -37,12 +38,12 @@ pub fn name<B: Bus>(bus: &mut B) -> Result<[u8; 16], IdentFault>
     told_register(ask_register(bus, ALL_SEND_CID, 0))
 }
 
-/// CMD9: the CSD of a card in stby.
+/// CMD9: the CSD of a card in stby, in which TMP_WRITE_PROTECT may have come on.
 pub fn describe<B: Bus>(bus: &mut B, rca: u16) -> Result<[u8; 16], IdentFault>
     ensures bounded { (B.view bus.new).exchanges ≤ (B.view bus.old).exchanges + 1 }
     ensures lines { (B.view bus.new).lines ≡ (B.view bus.old).lines }
-    ensures moves { Moves (λ old new. IfOk result (λ csd. csd ≡ old.card.made.csd))
-        (λ old new. IsNamed rca old.card → (result ≡ Ok old.card.made.csd) × IsNamed rca new.card)
+    ensures moves { Moves (λ old new. IfOk result (λ csd. IsToldCsd old.card.made csd))
+        (λ old new. IsNamed rca old.card → IsOk result × IsNamed rca new.card)
         (B.view bus.old) (B.view bus.new) }
 {
     identify_laws::cmd9_tells_the_csd();

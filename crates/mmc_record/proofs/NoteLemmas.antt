@@ -16,7 +16,8 @@ use Rattle.mmc_regs.specs.declared.csd.Csd.{Csd}
 use Rattle.mmc_regs.specs.declared.csd.Csd.TheVariants.{V1, V2}
 use Rattle.mmc_regs.specs.declared.fault.RegFault.{RegFault}
 use Rattle.mmc_regs.specs.declared.fault.RegFault.TheVariants.{Range, Structure}
-use Rattle.mmc_card.specs.Made.{HasRegisters, Made}
+use Rattle.mmc_card.proofs.ToldLemmas.{told_registers}
+use Rattle.mmc_card.specs.Made.{HasRegisters, Made, csd_told}
 use Rattle.mmc_card.specs.declared.exchange.Lines.{Lines}
 use Rattle.mmc_switch.specs.Info.{IsKnown}
 use Rattle.mmc_switch.specs.declared.info.Info.{Info}
@@ -73,15 +74,16 @@ pub card_checks : (limits : Lines) (made : Made) (info : Info) → HasRegisters 
 card_checks limits made info registers is =
     let cid : checked_number made.cid ≡ Ok (register_number made.cid) =
     checked made.cid registers.cid_check registers.cid_end in
-    let csd : checked_number made.csd ≡ Ok (register_number made.csd) =
-    checked made.csd registers.csd_check registers.csd_end in
-    let read : csd_of made.kind (register_number made.csd) ≡ Ok info.csd = sym (ap (csd_from made.kind) csd) ∙ is.csd in
-    let number = number_of made.kind (register_number made.csd) info.csd read in
+    let told = csd_told is.says made in
+    let takes = told_registers is.says made registers in
+    let csd : checked_number told ≡ Ok (register_number told) = checked told takes.csd_check takes.csd_end in
+    let read : csd_of made.kind (register_number told) ≡ Ok info.csd = sym (ap (csd_from made.kind) csd) ∙ is.csd in
+    let number = number_of made.kind (register_number told) info.csd read in
     record {
       cid = ap checked_number (ap (bytes_high_first 16) is.cid ∙ again made.cid registers.cid registers.cid_bytes)
           ∙ cid ∙ ap Ok (sym is.cid);
       csd = ap (λ kind. csd_in kind (bytes_high_first 16 (csd_number info.csd))) is.kind
-          ∙ ap (csd_in made.kind) (ap (bytes_high_first 16) number ∙ again made.csd registers.csd registers.csd_bytes) ∙ is.csd;
+          ∙ ap (csd_in made.kind) (ap (bytes_high_first 16) number ∙ again told takes.csd takes.csd_bytes) ∙ is.csd;
     }
 
 -- What a fact says of each partition.

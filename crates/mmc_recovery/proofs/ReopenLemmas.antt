@@ -3,13 +3,13 @@ use Rattle.std.proofs.Common.{◌∙◌, ◌≡◌, Bool, ap, false, refl, subst
 use Rattle.std.specs.Prelude.{Err, IfOk, IsOk, None, Ok, Result}
 use Rattle.mmc_card.specs.BusView.{BusView}
 use Rattle.mmc_card.specs.Card.{IsCard}
-use Rattle.mmc_card.specs.Made.{Made}
+use Rattle.mmc_card.specs.Made.{HasRegisters, Made}
 use Rattle.mmc_card.specs.declared.exchange.Lines.{Lines}
 use Rattle.mmc_card.specs.Profile.{InProfile}
 use Rattle.mmc_bus.proofs.WorkLemmas.{moved_as}
 use Rattle.mmc_bus.specs.Learned.{Stays}
 use Rattle.mmc_bus.specs.Work.{Moved}
-use Rattle.mmc_switch.specs.Info.{IsInfo, IsKnown, used_as}
+use Rattle.mmc_switch.specs.Info.{IsInfo, IsKnown}
 use Rattle.mmc_switch.specs.Place.{IsBroken, IsInitialized, IsReady, Knows}
 use Rattle.mmc_switch.specs.declared.broken.Broken.{Broken}
 use Rattle.mmc_switch.specs.declared.info.Info.{Info}
@@ -33,9 +33,10 @@ Resets broken r =
 
 -- the card is the one that it was
 pub resets_so : (broken : Broken) (session used : Session) (a b : BusView)
-    → ((view : BusView) → IsReady session view → IsReady used view) → Initializes (Ok session) a b
-    → Resets broken (Ok used) a b
-resets_so broken session used a b ready p = moved_as a b p (λ knows. ready b p.own.ready) (λ same profile knows. refl)
+    → ((view : BusView) → IsKnown view.limits view.card.made broken.session.info → IsReady session view → IsReady used view)
+    → Initializes (Ok session) a b → Resets broken (Ok used) a b
+resets_so broken session used a b ready p =
+    moved_as a b p (λ knows. ready b (knows_then broken.session a b p.stays knows).info p.own.ready) (λ same profile knows. refl)
 
 knows_no_part : (session : Session) (view : BusView) → Knows session view
     → Knows (record session { selected = None }) view
@@ -60,16 +61,14 @@ resets_none broken left fault a b e p =
 
 -- it is another one
 pub resets_other : (broken left : Broken) (session : Session) (one other : Info) (is_same : Bool) (a b : BusView)
-    → left ≡ given_up broken → one ≡ used_as broken.session.info session.info → other ≡ broken.session.info
-    → is_same ≡ false
-    → ((limits : Lines) (made : Made) (whole : Info) → IsInfo limits made whole → IsKnown limits made other
-    → one ≡ used_as other whole → is_same ≡ true)
+    → left ≡ given_up broken → one ≡ session.info → other ≡ broken.session.info → is_same ≡ false
+    → ((limits : Lines) (made : Made) → HasRegisters made → IsInfo limits made one → IsKnown limits made other → is_same ≡ true)
     → Initializes (Ok session) a b → Resets broken (Err left) a b
 resets_other broken left session one other is_same a b e now was differs known p =
     moved_as a b p (λ knows. left_broken broken left a b e p.is_card p.stays knows)
     (λ same profile knows.
     let made = b.card.made in
     let still = knows_then broken.session a b p.stays knows in
-    let is = known b.limits made session.info p.own.info (subst (IsKnown b.limits made) (sym was) still.info)
-    (now ∙ ap (λ (before : Info). used_as before session.info) (sym was)) in
+    let is = known b.limits made p.is_card.registers (subst (IsInfo b.limits made) (sym now) p.own.info)
+    (subst (IsKnown b.limits made) (sym was) still.info) in
     cc (is, differs))

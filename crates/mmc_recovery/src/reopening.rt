@@ -12,7 +12,8 @@ ghost use Rattle.mmc_recovery.specs.Settled.{Leaves, given_up};
 use mmc_bus::Bus;
 use mmc_switch::{Broken, Session, initialize};
 
-/// Resets the card, whatever became of it. What wasn't used of it before isn't used after.
+/// Resets the card, whatever became of it. What wasn't used of it before isn't used after, and it is written as before, though its
+/// CSD may say by now that it is write protected.
 ///
 /// # Errors
 /// What is left, where the card isn't initialized or is another one; of a card in profile only where a fault fell.
@@ -29,9 +30,8 @@ pub fn reset<B: Bus>(bus: &mut B, broken: Broken) -> Result<Session, Broken>
     let Ok(session) = initialize(bus) else {
         return Err(broken.give_up());
     };
-    let session = session.used_as(broken.info());
     if session.info().is_same(broken.info()) {
-        Ok(session)
+        Ok(session.used_as(broken.info()))
     } else {
         Err(broken.give_up())
     }

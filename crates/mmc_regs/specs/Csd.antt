@@ -7,7 +7,8 @@ use Rattle.mmc_frame.specs.declared.kind.Kind.{Kind}
 use Rattle.mmc_frame.specs.declared.kind.Kind.TheVariants.{Sd, Mmc as MmcDevice}
 use Rattle.mmc_regs.specs.CsdFields.{csd_structure, read_bl_len, c_size, c_size_mult, perm_write_protect}
 use Rattle.mmc_regs.specs.CsdFields.{ccc, class_10, tmp_write_protect, erase_blk_en, sector_size, write_bl_len, c_size_v2}
-use Rattle.mmc_regs.specs.Register.{checked_number}
+use Rattle.mmc_regs.specs.CsdFields.{lasting_number, with_protection}
+use Rattle.mmc_regs.specs.Register.{checked_number, checked_register, register_number}
 use Rattle.mmc_regs.specs.declared.fault.RegFault.{RegFault}
 use Rattle.mmc_regs.specs.declared.fault.RegFault.TheVariants.{Structure, Range}
 use Rattle.mmc_regs.specs.declared.csd.Csd.{Csd}
@@ -85,3 +86,13 @@ IsOfKind MmcDevice csd = ¬ IsSdCsd csd
 -- write protected for good, or for now
 abbrev pub is_protected : ℕ → Bool
 is_protected csd = (perm_write_protect csd == 1) || (tmp_write_protect csd == 1)
+
+-- The CSD of a card that has become write protected for now, with the check that goes with it.
+abbrev pub protected_csd : List ℕ → List ℕ
+protected_csd register = checked_register (with_protection (register_number register))
+
+-- what never changes of a CSD
+abbrev pub lasting_csd : Csd → Csd
+lasting_csd (V1 csd) = V1 (lasting_number csd)
+lasting_csd (V2 csd) = V2 (lasting_number csd)
+lasting_csd (Mmc csd) = Mmc (lasting_number csd)

@@ -1,7 +1,7 @@
 -- Headline (docs/AUDIT.md, "What to read").
 -- The fields of the CSD, a register of 128 bits, by their bits: version 1.0 of SD cards (SD Physical Layer 6.00,
 -- section 5.3.2) and, down to TMP_WRITE_PROTECT, the CSD of eMMC devices too (JESD84-B51, section 7.3).
-use Rattle.std.specs.Prelude.{ℕ}
+use Rattle.std.specs.Prelude.{◌*◌, ◌+◌, ◌/◌, ◌==◌, ◌^◌, if◌then◌else◌, ℕ}
 use Rattle.mmc_frame.specs.Field.{field}
 
 abbrev pub csd_structure : ℕ → ℕ
@@ -43,3 +43,11 @@ write_bl_len csd = field 25 22 csd
 -- of version 2.0, whose CCC and protect bits stand as above (SD Physical Layer 6.00, section 5.3.3)
 abbrev pub c_size_v2 : ℕ → ℕ
 c_size_v2 csd = field 69 48 csd
+
+-- TMP_WRITE_PROTECT set
+abbrev pub with_protection : ℕ → ℕ
+with_protection csd = if tmp_write_protect csd == 1 then csd else csd + 2 ^ 12
+
+-- all above TMP_WRITE_PROTECT, and 0 from it on down
+abbrev pub lasting_number : ℕ → ℕ
+lasting_number csd = csd / 2 ^ 13 * 2 ^ 13

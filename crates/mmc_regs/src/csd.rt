@@ -1,6 +1,6 @@
 // The card-specific data register.
 ghost use Rattle.std.specs.Prelude.{◌≡◌, ◌+◌, ◌*◌, ◌/◌, ◌^◌, ◌<◌, ◌↔◌, IfOk, IsTrue};
-ghost use Rattle.mmc_regs.specs.Csd.{IsOfKind, IsSdCsd, csd_in, csd_number, erase_unit_of, erase_unit_v1, has_block_length, is_protected, may_switch, sd_csd_of, sectors_of, v1_of};
+ghost use Rattle.mmc_regs.specs.Csd.{IsOfKind, IsSdCsd, csd_in, csd_number, erase_unit_of, erase_unit_v1, has_block_length, is_protected, lasting_csd, may_switch, sd_csd_of, sectors_of, v1_of};
 ghost use Rattle.mmc_regs.specs.CsdFields.{perm_write_protect, tmp_write_protect};
 
 use crate::bits::{bits, read_checked};
@@ -77,6 +77,17 @@ impl Csd {
     {
         let register = self.register();
         bits(register, 95, 84) == 0 || bits(register, 94, 94) == 1
+    }
+
+    /// What never changes of it: all above TMP_WRITE_PROTECT, which may come on by itself, and 0 from that bit on down.
+    pub fn lasting(&self) -> Csd
+        ensures { result ≡ lasting_csd self.now }
+    {
+        match self {
+            Csd::V1(csd) => Csd::V1(csd.lasting()),
+            Csd::V2(csd) => Csd::V2(csd.lasting()),
+            Csd::Mmc(csd) => Csd::Mmc(csd.lasting()),
+        }
     }
 
     /// The size of the user area in sectors of 512 bytes, rounded down. An eMMC device that is addressed by sectors has

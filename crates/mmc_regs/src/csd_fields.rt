@@ -1,6 +1,6 @@
 // The fields of a CSD, by version.
 ghost use Rattle.std.specs.Prelude.{◌≡◌, ℕ, ◌≤◌, ◌↔◌, IsTrue};
-ghost use Rattle.mmc_regs.specs.CsdFields.{c_size, c_size_mult, c_size_v2, erase_blk_en, read_bl_len, sector_size, write_bl_len};
+ghost use Rattle.mmc_regs.specs.CsdFields.{c_size, c_size_mult, c_size_v2, erase_blk_en, lasting_number, read_bl_len, sector_size, write_bl_len};
 
 use crate::bits::bits;
 use std::marker::Model;
@@ -50,6 +50,13 @@ impl Model for CsdMmc {
     ghost inverse = { λ n. record { register = n } };
 }
 
+// The register without TMP_WRITE_PROTECT and what stands below it, bits 12 to 0.
+fn lasting_number(register: u128) -> u128
+    ensures { result ≡ lasting_number register }
+{
+    register / 0x2000 * 0x2000
+}
+
 // READ_BL_LEN, which version 1.0 and the CSD of an eMMC device have in common.
 fn read_bl_len(register: u128) -> u8
     ensures { result ≡ read_bl_len register }
@@ -86,6 +93,16 @@ impl CsdV1 {
         ensures { result ≡ self }
     {
         self.register
+    }
+
+    /// What never changes of it.
+    #[tactic(auto, using(crate::proofs::CsdLemmas::lasting_write_length))]
+    pub(crate) fn lasting(self) -> Self
+        ensures { result ≡ lasting_number self }
+    {
+        CsdV1 {
+            register: lasting_number(self.register),
+        }
     }
 
     /// READ_BL_LEN: a block to read has 2 to the power of it bytes.
@@ -147,6 +164,15 @@ impl CsdMmc {
         self.register
     }
 
+    /// What never changes of it.
+    pub(crate) fn lasting(self) -> Self
+        ensures { result ≡ lasting_number self }
+    {
+        CsdMmc {
+            register: lasting_number(self.register),
+        }
+    }
+
     /// READ_BL_LEN: a block to read has 2 to the power of it bytes. It may have any value below 16.
     pub fn read_bl_len(self) -> u8
         ensures { result ≡ read_bl_len self }
@@ -182,6 +208,15 @@ impl CsdV2 {
         ensures { result ≡ self }
     {
         self.register
+    }
+
+    /// What never changes of it.
+    pub(crate) fn lasting(self) -> Self
+        ensures { result ≡ lasting_number self }
+    {
+        CsdV2 {
+            register: lasting_number(self.register),
+        }
     }
 
     /// C_SIZE, below 2 to the power of 22: one less than the units of 512 KiB.

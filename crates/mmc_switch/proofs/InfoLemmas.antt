@@ -35,7 +35,7 @@ csd_taken : (made : Made) → HasRegisters made → checked_number made.csd ≡ 
 csd_taken made registers = rw registers.csd_check (rw registers.csd_end refl)
 
 -- its check is sound
-csd_read : (made : Made) (csd : Csd) → HasRegisters made → csd_in made.kind made.csd ≡ Ok csd
+pub csd_read : (made : Made) (csd : Csd) → HasRegisters made → csd_in made.kind made.csd ≡ Ok csd
     → csd_of made.kind (csd_number_of made) ≡ Ok csd
 csd_read made csd registers e = sym (ap (csd_from made.kind) (csd_taken made registers)) ∙ e
 

@@ -2,7 +2,7 @@
 use denote.Enum.Bare.{same_true, true_same}
 use mathlib.Core.HLevel.{is_prop→PathP, Π_prop}
 use native.Mathlib.Bridge.{le_prop}
-use Rattle.std.proofs.Common.{◌∙◌, ◌≡◌, ◌≤◌, Bool, ap, false, inl, inr, refl, rules, subst, sym, true}
+use Rattle.std.proofs.Common.{◌∙◌, ◌≡◌, ◌≤◌, Bool, ap, false, inl, inr, refl, rules, subst, sym, true, ℕ}
 use Rattle.std.proofs.lemmas.Bool.{eq-eqb, eqb-true}
 use Rattle.std.specs.Prelude.{◌&&◌, ◌==◌, Ok, Result}
 use Rattle.std.specs.contracts.prelude.BoolPartialEq.TheImpl as bool_by
@@ -14,11 +14,14 @@ use Rattle.mmc_frame.specs.contracts.kind.Kind.{the_type as kind_type}
 use Rattle.mmc_frame.specs.contracts.kind.KindPartialEq.TheImpl as kind_by
 use Rattle.mmc_regs.specs.contracts.cid.CidPartialEq.TheImpl as cid_by
 use Rattle.mmc_regs.specs.contracts.csd.CsdPartialEq.TheImpl as csd_by
+use Rattle.mmc_regs.proofs.CsdLemmas.{Above, AreAlike, AreReadAlike, alike_lasting, read_alike}
+use Rattle.mmc_regs.specs.Csd.{csd_of, lasting_csd}
 use Rattle.mmc_regs.specs.declared.csd.Csd.{Csd}
 use Rattle.mmc_regs.specs.declared.csd.Csd.TheVariants.{Mmc, V1, V2}
 use Rattle.mmc_regs.specs.declared.fault.RegFault.{RegFault}
 use Rattle.mmc_ext_csd.specs.Partition.{addressable_sectors}
-use Rattle.mmc_card.specs.Made.{Made}
+use Rattle.mmc_card.proofs.ToldLemmas.{told_above, told_registers}
+use Rattle.mmc_card.specs.Made.{HasRegisters, Made, as_told, csd_number_of}
 use Rattle.mmc_card.specs.contracts.exchange.Timing.{the_type as timing_type}
 use Rattle.mmc_card.specs.contracts.exchange.Width.{the_type as width_type}
 use Rattle.mmc_card.specs.contracts.exchange.WidthPartialEq.TheImpl as width_by
@@ -26,6 +29,7 @@ use Rattle.mmc_card.specs.declared.exchange.Lines.{Lines}
 use Rattle.mmc_card.specs.declared.exchange.Timing.{Timing}
 use Rattle.mmc_card.specs.declared.part.Part.{Part}
 use Rattle.mmc_card.specs.declared.part.Part.TheVariants.{Boot1, Gp1, Gp2, Gp3, Gp4, User}
+use Rattle.mmc_switch.proofs.InfoLemmas.{csd_read}
 use Rattle.mmc_switch.specs.Info.{IsInfo, IsKnown, IsTimingOver, lasting, lasting_timing, used_as}
 use Rattle.mmc_switch.specs.Sizes.{size_of}
 use Rattle.mmc_switch.specs.contracts.info.InfoPartialEq.TheImpl as by
@@ -68,7 +72,7 @@ same_bool true false e = cc (e)
 same_bool false true e = cc (e)
 same_bool false false e = refl
 
-same_csd : (a b : Csd) → csd_by.ghosts.eq a b ≡ true → a ≡ b
+pub same_csd : (a b : Csd) → csd_by.ghosts.eq a b ≡ true → a ≡ b
 same_csd (V1 a) (V1 b) e = ap V1 (eqb-true a b e)
 same_csd (V2 a) (V2 b) e = ap V2 (eqb-true a b e)
 same_csd (Mmc a) (Mmc b) e = ap Mmc (eqb-true a b e)
@@ -118,8 +122,21 @@ same_info a b e =
 
 -- By the card: its registers tell all of it.
 
-one_csd : (r : Result Csd RegFault) (a b : Csd) → r ≡ Ok a → r ≡ Ok b → a ≡ b
-one_csd r a b e f = cc (e, f)
+alike_by : (kind : Kind) (x y : ℕ) (a b : Csd) → csd_of kind x ≡ Ok a → csd_of kind y ≡ Ok b → Above x y → AreAlike a b
+alike_by kind x y a b one other same =
+    subst (λ (r : Result Csd RegFault). AreReadAlike r (Ok b)) one
+    (subst (AreReadAlike (csd_of kind x)) other (read_alike kind x y same))
+
+-- one card tells CSDs that last as the same one
+pub same_lasting : (limits : Lines) (made : Made) (a b : Info) → HasRegisters made → IsInfo limits made a → IsKnown limits made b
+    → lasting_csd a.csd ≡ lasting_csd b.csd
+same_lasting limits made a b registers one other =
+    let x = csd_number_of (as_told one.says made) in
+    let y = csd_number_of (as_told other.says made) in
+    alike_lasting a.csd b.csd
+    (alike_by made.kind x y a.csd b.csd (csd_read (as_told one.says made) a.csd (told_registers one.says made registers) one.csd)
+    (csd_read (as_told other.says made) b.csd (told_registers other.says made registers) other.csd)
+    (told_above one.says made registers ∙ sym (told_above other.says made registers)))
 
 -- of an SD card default speed lasts, and of an eMMC device the timing that its registers name and the host can
 same_timing : (limits : Lines) (made : Made) (kind other : Kind) (a b : Timing) → made.kind ≡ kind → kind ≡ other → IsTimingOver limits made a
@@ -141,11 +158,11 @@ pub known_info : (limits : Lines) (made : Made) (a b : Info) → IsInfo limits m
     → lasting (used_as b a) ≡ lasting b
 known_info limits made a b one other =
     same_fields (lasting (used_as b a)) (lasting b) (one.kind ∙ sym other.kind) (one.addressing ∙ sym other.addressing) refl
-    (one.cid ∙ sym other.cid) (one_csd _ a.csd b.csd one.csd other.csd)
+    (one.cid ∙ sym other.cid) refl
     (all_sizes a.sizes b.sizes (one.sizes User ∙ sym (other.sizes User)) (one.sizes Boot1 ∙ sym (other.sizes Boot1))
     (one.sizes Gp1 ∙ sym (other.sizes Gp1)) (one.sizes Gp2 ∙ sym (other.sizes Gp2))
     (one.sizes Gp3 ∙ sym (other.sizes Gp3)) (one.sizes Gp4 ∙ sym (other.sizes Gp4)))
-    (one.read_only ∙ sym other.read_only) (one.erase_unit ∙ sym other.erase_unit)
+    refl (one.erase_unit ∙ sym other.erase_unit)
     (one.erased_byte ∙ sym other.erased_byte) (uses_of _ b.trims a.trims one.trims other.trims)
     (uses_of _ b.cmd23 a.cmd23 one.cmd23 other.cmd23)
     (one.width ∙ sym other.width)
@@ -193,3 +210,6 @@ info_is a =
 
 pub equal_info : (a b : Info) → a ≡ b → by.ghosts.eq a b ≡ true
 equal_info a b e = subst (λ c. by.ghosts.eq a c ≡ true) e (info_is a)
+
+pub equal_csd : (a b : Csd) → a ≡ b → csd_by.ghosts.eq a b ≡ true
+equal_csd a b e = subst (λ c. csd_by.ghosts.eq a c ≡ true) e (csd_is a)

@@ -20,7 +20,7 @@ use Rattle.mmc_card.specs.Made.{Made, has_cmd23, sectors_in}
 use Rattle.mmc_card.specs.RowsSwitch.{timing_number, width_number}
 use Rattle.mmc_bus.specs.Learned.{Stays}
 use Rattle.mmc_bus.specs.Work.{StaysSet, Worked}
-use Rattle.mmc_switch.specs.Info.{IsInfo, IsInfoWith, IsKnown, trims_of}
+use Rattle.mmc_switch.specs.Info.{IsInfo, IsInfoWith, IsKnown, trims_of, used_as}
 use Rattle.mmc_switch.specs.declared.info.Info.{Info}
 use Rattle.mmc_switch.specs.Place.{IsBroken, IsPartOf, IsReady, Knows, StandsAs, setting_in}
 use Rattle.mmc_switch.specs.Stages.{lines_of}
@@ -97,6 +97,7 @@ info_using Uses Other limits made info trims cmd23 k use_trims use_cmd23 = recor
   addressing = k.addressing;
   rca = k.rca;
   cid = k.cid;
+  says = k.says;
   csd = k.csd;
   sizes = k.sizes;
   read_only = k.read_only;
@@ -146,6 +147,38 @@ ready_using session trims counts view r =
       set = r.set;
       part = record { known = r.part.known; sd = r.part.sd };
     }
+
+-- and who keeps to what another knows of it
+known_as : (limits : Lines) (made : Made) (info other : Info) → IsKnown limits made info → IsKnown limits made other
+    → IsKnown limits made (used_as other info)
+known_as limits made info other k o = record {
+  kind = k.kind;
+  addressing = k.addressing;
+  rca = k.rca;
+  cid = k.cid;
+  says = o.says;
+  csd = o.csd;
+  sizes = k.sizes;
+  read_only = o.read_only;
+  erase_unit = k.erase_unit;
+  erased_byte = k.erased_byte;
+  trims = no_more info.trims other.trims _ k.trims;
+  cmd23 = no_more info.cmd23 other.cmd23 _ k.cmd23;
+  width = k.width;
+  timing = k.timing;
+}
+
+pub ready_as : (session : Session) (other : Info) (view : BusView) → IsKnown view.limits view.card.made other → IsReady session view
+    → IsReady (record session { info = used_as other session.info }) view
+ready_as session other view known r = record {
+  is_card = r.is_card;
+  knows = record {
+    info = known_as view.limits view.card.made session.info other r.knows.info known;
+    partition_config = r.knows.partition_config;
+  };
+  set = r.set;
+  part = record { known = r.part.known; sd = r.part.sd };
+}
 
 pub stands_then : (session : Session) (a b : BusView) → StaysSet a b → StandsAs session a → StandsAs session b
 stands_then session a b set stands = record {

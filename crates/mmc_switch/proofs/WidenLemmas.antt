@@ -17,7 +17,9 @@ use Rattle.mmc_ext_csd.specs.ExtCsd.{sec_count}
 use Rattle.mmc_card.specs.BusView.{BusView}
 use Rattle.mmc_card.specs.Card.{Card, IsCard, is_writing}
 use Rattle.mmc_card.specs.Laws.{Setting}
-use Rattle.mmc_card.specs.Made.{HasRegisters, Made, addressing_of, csd_number_of, has_sector_addresses}
+use Rattle.mmc_card.proofs.ToldLemmas.{told_above, told_registers}
+use Rattle.mmc_card.specs.Made.{HasRegisters, Made, addressing_of, as_told, csd_number_of, has_sector_addresses}
+use Rattle.mmc_regs.proofs.CsdLemmas.{same_switch}
 use Rattle.mmc_card.specs.Made.{named_block_length}
 use Rattle.mmc_card.specs.Profile.{InProfile}
 use Rattle.mmc_card.specs.RowsSwitch.{IsExtCsdOf, ext_csd_now, partition_config_for, timing_number, width_number}
@@ -110,7 +112,9 @@ WidensKind kind found r a b =
 -- what its CSD lets an SD card know is what CCC of its register says
 class_found : (found : Found) (switches : Bool) (made : Made) → HasRegisters made → IsFound made found
     → switches ≡ may_switch (csd_number found.csd) → switches ≡ may_switch (csd_number_of made)
-class_found found switches made registers own says = says ∙ ap may_switch (number_is made found.csd registers own.csd)
+class_found found switches made registers own says =
+    says ∙ ap may_switch (number_is (as_told own.says made) found.csd (told_registers own.says made registers) own.csd)
+    ∙ same_switch _ _ (told_above own.says made registers)
 
 pub sd_exchange_fails : (found : Found) (switches : Bool) (told : Result Told Cause) (r : Result Session SwitchFault)
     (a b : BusView) → IsErr r → false ≡ is_ok told → switches ≡ may_switch (csd_number found.csd)

@@ -16,7 +16,7 @@ use Rattle.mmc_card.specs.declared.exchange.Width.{Width}
 use Rattle.mmc_card.specs.declared.exchange.Width.TheVariants.{Eight, Four, One}
 use Rattle.mmc_card.specs.declared.part.Part.{Part}
 use Rattle.mmc_card.specs.Made.{Made, addressing_of, erase_unit_of_card, erased_byte_of_card, has_cmd23, has_high_speed}
-use Rattle.mmc_card.specs.Made.{has_switch_function, is_read_only, is_sd, sectors_in}
+use Rattle.mmc_card.specs.Made.{as_told, csd_told, has_switch_function, is_read_only, is_sd, sectors_in}
 use Rattle.mmc_identify.specs.Stages.{IsRcaOf}
 use Rattle.mmc_switch.specs.Sizes.{size_of, some_size}
 use Rattle.mmc_switch.specs.declared.info.Info.{Info}
@@ -77,10 +77,12 @@ pub record IsInfoWith (Uses : Bool → Bool → Type 0) (limits : Lines) (made :
   pub addressing : info.addressing ≡ addressing_of made
   pub rca : IsRcaOf made info.rca
   pub cid : info.cid ≡ register_number made.cid
-  pub csd : csd_in made.kind made.csd ≡ Ok info.csd
+  -- as the card told it first, with TMP_WRITE_PROTECT that had come on or without
+  pub says : Bool
+  pub csd : csd_in made.kind (csd_told says made) ≡ Ok info.csd
   -- a partition that commands can't address as a whole doesn't exist
   pub sizes : (part : Part) → size_of info.sizes part ≡ existing_sectors (sectors_in made part) (addressing_of made)
-  pub read_only : info.read_only ≡ is_read_only made
+  pub read_only : info.read_only ≡ is_read_only (as_told says made)
   pub erase_unit : info.erase_unit ≡ erase_unit_of_card made
   pub erased_byte : info.erased_byte ≡ erased_byte_of_card made
   pub trims : Uses info.trims (trims_of made)
@@ -96,6 +98,12 @@ IsInfo = IsInfoWith (λ used has. used ≡ has)
 abbrev pub IsKnown : Lines → Made → Info → Type 0
 IsKnown = IsInfoWith (λ used has. used ≡ true → has ≡ true)
 
--- the same, but that trims and CMD23 aren't used where the other doesn't use them
+-- the same, but that trims and CMD23 aren't used where the other doesn't use them, and that what the card told of its write
+-- protection stays
 abbrev pub used_as : Info → Info → Info
-used_as other info = record info { trims = info.trims && other.trims; cmd23 = info.cmd23 && other.cmd23 }
+used_as other info = record info {
+  csd = other.csd;
+  read_only = other.read_only;
+  trims = info.trims && other.trims;
+  cmd23 = info.cmd23 && other.cmd23;
+}

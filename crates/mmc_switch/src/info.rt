@@ -44,7 +44,8 @@ pub struct Info {
 
 impl Info {
     ghost use Rattle.std.specs.Prelude.{◌≡◌, true};
-    ghost use Rattle.mmc_card.specs.Made.{Made};
+    ghost use Rattle.mmc_card.specs.Made.{HasRegisters, Made};
+    ghost use Rattle.mmc_regs.specs.Csd.{lasting_csd};
     ghost use Rattle.mmc_card.specs.declared.exchange.Lines.{Lines};
     ghost use Rattle.mmc_switch.specs.Info.{IsInfo, IsKnown, lasting, sectors_of, used_as};
     ghost use Rattle.mmc_switch.specs.KnownFaults.{heeding};
@@ -71,11 +72,14 @@ impl Info {
         lasting
     }
 
-    /// The same, but that trims and CMD23 aren't used where the other doesn't use them.
+    /// The same, but that trims and CMD23 aren't used where the other doesn't use them, and that the CSD and what it says of write
+    /// protection are the other's: TMP_WRITE_PROTECT may have come on since.
     pub fn used_as(&self, other: &Info) -> Info
         ensures { result ≡ used_as other.now self.now }
     {
         let mut used = *self;
+        used.csd = other.csd;
+        used.read_only = other.read_only;
         used.trims = self.trims && other.trims;
         used.cmd23 = self.cmd23 && other.cmd23;
         used
@@ -91,13 +95,15 @@ impl Info {
         used
     }
 
-    /// Whether this and what else is known of a card are the same for good. What is known of one card over one host always is,
-    /// once no more of it is used than before.
+    /// Whether this and what else is known of a card are the same for good, once no more of it is used than of the other. What is
+    /// known of one card over one host always is, whether TMP_WRITE_PROTECT has come on or not.
     pub fn is_same(&self, other: &Info) -> bool
-        ensures same { result ≡ true → lasting self.now ≡ lasting other.now }
-        ensures known { (limits : Lines) → (made : Made) → (whole : Info) → IsInfo limits made whole
-            → IsKnown limits made other.now → self.now ≡ used_as other.now whole → result ≡ true }
+        ensures same { result ≡ true → lasting (used_as other.now self.now) ≡ lasting other.now }
+        ensures csd { result ≡ true → lasting_csd self.now.csd ≡ lasting_csd other.now.csd }
+        ensures known { (limits : Lines) → (made : Made) → HasRegisters made → IsInfo limits made self.now
+            → IsKnown limits made other.now → result ≡ true }
     {
-        self.lasting() == other.lasting()
+        self.used_as(other).lasting() == other.lasting()
+            && self.csd.lasting() == other.csd.lasting()
     }
 }

@@ -2,7 +2,7 @@ ghost use Rattle.std.specs.Prelude.{◌≡◌, ◌<◌, IsSome, None, Some, fals
 ghost use Rattle.mmc_card.specs.declared.part.Part.TheVariants.{User};
 ghost use Rattle.mmc_card.specs.BusView.{BusView};
 ghost use Rattle.mmc_switch.specs.Address.{address_of};
-ghost use Rattle.mmc_switch.specs.Info.{used_as};
+ghost use Rattle.mmc_switch.specs.Info.{IsKnown, used_as};
 ghost use Rattle.mmc_switch.specs.KnownFaults.{heeding};
 ghost use Rattle.mmc_switch.specs.Place.{IsReady};
 ghost use Rattle.mmc_switch.specs.UnderWay.{broken_off, room_of};
@@ -102,10 +102,12 @@ impl Session {
         }
     }
 
-    /// The same session, but that trims and CMD23 aren't used where what else is known of the card doesn't use them.
+    /// The same session, but that trims and CMD23 aren't used where what else is known of the card doesn't use them, and that what
+    /// the card told of its write protection is the other's.
     pub fn used_as(self, other: &Info) -> Session
         ensures uses { result ≡ record self { info = used_as other.now self.info } }
-        ensures ready { (view : BusView) → IsReady self view → IsReady result view }
+        ensures ready { (view : BusView) → IsKnown view.limits view.card.made other.now → IsReady self view
+            → IsReady result view }
     {
         Session {
             info: self.info.used_as(other),

@@ -49,18 +49,29 @@ pub fn r1(index: u8, status: u32) -> BusAnswer
 
 /// What card `emmc` answers while it is opened, with this EXT_CSD.
 pub fn answers_of_emmc(alloc: Global, ext_csd: [u8; 512]) -> Result<VecDeque<BusAnswer>, Fail> {
-    let register = BusAnswer::Command(Reply::Long(encode_r2(&1u128.to_be_bytes())));
-    let csd = BusAnswer::Command(Reply::Long(encode_r2(&1u128.to_be_bytes())));
+    let mut answers = VecDeque::new(alloc);
+    answer_opening(alloc, &mut answers, 1, ext_csd)?;
+    Ok(answers)
+}
+
+/// Adds what card `emmc` answers while it is opened, with this CSD and EXT_CSD.
+pub fn answer_opening(
+    alloc: Global,
+    answers: &mut VecDeque<BusAnswer>,
+    csd: u128,
+    ext_csd: [u8; 512],
+) -> Result<(), Fail> {
+    let cid = BusAnswer::Command(Reply::Long(encode_r2(&1u128.to_be_bytes())));
+    let csd = BusAnswer::Command(Reply::Long(encode_r2(&csd.to_be_bytes())));
     let mut block = Vec::new(alloc);
     block.extend_from_slice(&ext_csd)?;
-    let mut answers = VecDeque::new(alloc);
     for answer in [
         BusAnswer::Command(Reply::Silent),
         BusAnswer::Command(Reply::Silent),
         BusAnswer::Command(Reply::Silent),
         BusAnswer::Command(Reply::Silent),
         BusAnswer::Command(Reply::Short(encode_r3(0xc0ff_8080))),
-        register,
+        cid,
         r1(3, 0x500),
         csd,
         r1(7, 0x700),
@@ -78,9 +89,14 @@ pub fn answers_of_emmc(alloc: Global, ext_csd: [u8; 512]) -> Result<VecDeque<Bus
         BusAnswer::Busy(false),
         r1(13, 0x900),
     ] {
-        answers.push_back(answer).ok().ok_or("no room")?;
+        pushed(answers, answer)?;
     }
-    Ok(answers)
+    Ok(())
+}
+
+/// Adds one answer.
+pub fn pushed(answers: &mut VecDeque<BusAnswer>, answer: BusAnswer) -> Result<(), Fail> {
+    Ok(answers.push_back(answer).ok().ok_or("no room")?)
 }
 
 /// What a bus says once card `emmc` was opened.
@@ -103,7 +119,7 @@ pub fn saying(alloc: Global, said: &[Said]) -> Result<ScriptedBus, Fail> {
             Said::Silent => BusAnswer::Command(Reply::Silent),
             Said::Busy(is_busy) => BusAnswer::Busy(is_busy),
         };
-        answers.push_back(answer).ok().ok_or("no room")?;
+        pushed(&mut answers, answer)?;
     }
     Ok(ScriptedBus::new(answers))
 }

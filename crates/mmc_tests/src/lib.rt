@@ -23,6 +23,8 @@ mod known_faults;
 #[cfg(test)]
 mod lagging;
 #[cfg(test)]
+mod protected;
+#[cfg(test)]
 mod settle;
 #[cfg(test)]
 mod trace;

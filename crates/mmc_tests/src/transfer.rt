@@ -96,10 +96,6 @@ fn lying_answers(bus: &mut VecDeque<BusAnswer>, lie: Lie) -> Result<(), Fail> {
     Ok(())
 }
 
-fn pushed(answers: &mut VecDeque<BusAnswer>, answer: BusAnswer) -> Result<(), Fail> {
-    Ok(answers.push_back(answer).ok().ok_or("no room")?)
-}
-
 // The cause by which the write fails.
 fn cause_of(alloc: Global, lie: Lie) -> Result<Option<Cause>, Fail> {
     let mut answers = answers_of_emmc(alloc, ext_csd_of_emmc())?;

@@ -8,6 +8,7 @@ use Rattle.mmc_card.specs.Blocks.{next_written}
 use Rattle.mmc_card.specs.BusView.{BusView}
 use Rattle.mmc_card.specs.Card.{NoAddress, is_selected, stored}
 use Rattle.mmc_card.specs.Laws.{IsStill, Setting}
+use Rattle.mmc_card.proofs.ToldLemmas.{told_unprotected}
 use Rattle.mmc_card.specs.Made.{is_misaligned, is_read_only, sector_at}
 use Rattle.mmc_card.specs.Sectors.{Sector}
 use Rattle.mmc_bus.specs.Work.{Narrows, Worked}
@@ -88,7 +89,9 @@ module _ (job : Job) (blocks : List Sector) (faults : ℕ) (kind : Kind) (addres
       let block : a.card.block_length ≡ 512 =
       ap (λ (s : Setting). s.block_length) (set_in job.session a job.selected at.under_way.stands selected) in
       let unprotected : (is_write job.way && is_read_only a.card.made) ≡ false =
-      unprotected_by job.way (is_read_only a.card.made) (λ writes. sym at.under_way.knows.info.read_only ∙ job.writable writes) in
+      let info = at.under_way.knows.info in
+      unprotected_by job.way (is_read_only a.card.made)
+      (λ writes. told_unprotected info.says a.card.made at.under_way.is_card.registers (sym info.read_only ∙ job.writable writes)) in
       record {
         obeys = record {
           is_still = still_idle (preset_of job) a.card idle;

@@ -1,4 +1,4 @@
-use Rattle.std.proofs.Common.{◌∙◌, ap, inl, refl, sym}
+use Rattle.std.proofs.Common.{◌∙◌, ap, false, inl, refl, sym}
 use Rattle.mmc_frame.specs.declared.addressing.Addressing.{Addressing}
 use Rattle.mmc_frame.specs.declared.kind.Kind.{Kind}
 use Rattle.mmc_regs.specs.Csd.{csd_in}
@@ -17,6 +17,7 @@ returns c =
       addressing = c.addressing_of-addressing.ensures;
       rca = λ is. refl;
       cid = cid_read registers.cid _ c.in-Ok-read_cid.ensures;
+      says = false;
       csd = sym (c.in-Ok-read_csd.ensures.read ∙ ap (λ (kind : Kind). csd_in kind registers.csd) c.kind.ensures);
       sizes = λ part.
           c.addressable.ensures.sizes made c.in-Ok.ensures.exist part

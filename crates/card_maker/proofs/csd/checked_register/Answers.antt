@@ -2,7 +2,7 @@ use Rattle.std.proofs.Common.{ap, ◌∙◌, append-nil}
 use Rattle.std.proofs.Common.{◌/◌}
 use Rattle.byteorder.specs.Endian.{big_bytes}
 use Rattle.mmc_frame.specs.RegisterFrame.{with_check}
-use Rattle.card_maker.specs.NewRegisters.{checked_register}
+use Rattle.mmc_regs.specs.Register.{checked_register}
 use Rattle.card_maker.proofs.csd.checked_register.Goals as goal
 
 pub returns : goal.returns

@@ -21,7 +21,7 @@ returns-clause-moves g c kept =
     moved_by old 2 0 heard new none k
     (subst (λ r. IfOk r (λ cid. cid ≡ old.card.made.cid)) (sym c.told_register.ensures)
     (subst (λ (made : Made). IfOk (judged.told_register heard) (λ cid. cid ≡ made.cid)) made
-    (register_own (λ made. made.cid) _ met heard new law)))
+    (register_own (λ made cid. cid ≡ made.cid) _ met heard new law)))
     (λ same ready.
     let rests = still_apart old.card Ready k.was_card ready refl in
     let f = named_fine old heard new (c.cmd2_tells_the_cid.ensures _ _ _ _ (k.step.at_once rests) k.was_card) same ready in

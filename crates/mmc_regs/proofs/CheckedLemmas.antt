@@ -10,8 +10,7 @@ use Rattle.mmc_frame.specs.Flips.{AreBytes}
 use Rattle.mmc_frame.specs.RegisterFrame.{has_end_bit, is_sound_register}
 use Rattle.mmc_frame.proofs.Frames.{register_with_check}
 use Rattle.mmc_frame.proofs.Linear.{remainder-lt}
-use Rattle.mmc_regs.specs.Register.{register_number}
-use Rattle.card_maker.specs.NewRegisters.{checked_register}
+use Rattle.mmc_regs.specs.Register.{checked_register, register_number}
 
 -- the check of the number's bytes
 abbrev pub check_in : ℕ → ℕ
