@@ -14,17 +14,16 @@ use Rattle.mmc_card.specs.declared.part.Part.{Part}
 use Rattle.mmc_erase.specs.Job.{erased}
 use Rattle.mmc_erase.specs.Whole.{HasErased}
 use Rattle.mmc_recovery.specs.Settled.{Leaves}
-use Rattle.mmc_switch.specs.Info.{lasting}
 use Rattle.mmc_switch.specs.Place.{IsBroken, IsReady}
 use Rattle.mmc_switch.specs.UnderWay.{known_part}
 use Rattle.mmc_switch.specs.declared.broken.Broken.{Broken}
-use Rattle.mmc_switch.specs.declared.info.Info.{Info}
 use Rattle.mmc_switch.specs.declared.session.Session.{Session}
 use Rattle.mmc_transfer.specs.Running.{change_for}
 use Rattle.mmc_transfer.specs.Whole.{HasRun}
 use Rattle.mmc_transfer.specs.declared.way.Way.{Way}
 use Rattle.mmc_transfer.specs.declared.way.Way.TheVariants.{Read, Write}
 use Rattle.mmc_direct.specs.Attempts.{HasPrepared, HasTried}
+use Rattle.mmc_direct.specs.Runs.{HasMade}
 use Rattle.mmc_requests.specs.Changes.{TakesEffect, erased_at, written_at}
 use Rattle.mmc_switch.specs.Stands.{StandsIn, stands_of}
 
@@ -113,13 +112,6 @@ carried_again change old mid new within done = record {
 
 -- Runs.
 
--- A run that was made, of any kind.
-pub record HasMade (change : Change) (old : BusView) (result : Result Session Broken) (new : BusView) : Type 0 where
-  pub stays : Stays old new
-  pub within : Within (holds new.card) (maybe_changed change (holds old.card))
-  pub done : IfOk result (λ session. IsReady session new × Same (holds new.card) (changed change (holds old.card)))
-  pub failed : IfErr result (λ broken. IsBroken broken new × (old.faults < new.faults))
-
 fell_by : (old new : ℕ) → 0 < new - old → old < new
 fell_by old new h = omega (arith, h)
 
@@ -170,13 +162,12 @@ made_erased session start count old (Err broken) new run =
       failed = (run.leaves.is_broken, fell_by old.faults new.faults run.leaves.fell);
     }
 
-pub made_erase : (session : Session) (info : Info) (part : Part) (start count : ℕ) (old : BusView)
-    (result : Result Session Broken) (new : BusView) → session.selected ≡ Some part → lasting session.info ≡ lasting info
-    → HasErased session start count old result new → HasMade (erased_at info part start count) old result new
-made_erase session info part start count old result new selected same run =
-    subst (λ (i : Info). HasMade (erased_at i part start count) old result new) same
-    (subst (λ p. HasMade (erased_at session.info (known_part p) start count) old result new) selected
-    (made_erased session start count old result new run))
+pub made_erase : (session : Session) (part : Part) (start count : ℕ) (old : BusView) (result : Result Session Broken)
+    (new : BusView) → session.selected ≡ Some part
+    → HasErased session start count old result new → HasMade (erased_at session.info part start count) old result new
+made_erase session part start count old result new selected run =
+    subst (λ p. HasMade (erased_at session.info (known_part p) start count) old result new) selected
+    (made_erased session start count old result new run)
 
 -- Attempts.
 

@@ -13,9 +13,7 @@ use Rattle.mmc_recovery.specs.Settled.{given_up}
 use Rattle.mmc_recovery.specs.declared.settling.TheConstants.{EXCHANGES_OF_A_PATIENT_SETTLE}
 use Rattle.mmc_switch.specs.declared.broken.Broken.{Broken}
 use Rattle.mmc_switch.specs.declared.session.Session.{Session}
-use Rattle.mmc_direct.specs.Served.{IfLeft, IsCausedIn, answer_of}
-use Rattle.mmc_switch.specs.Stands.{stands_of}
-use Rattle.mmc_direct.specs.declared.served.Served.{Served}
+use Rattle.mmc_direct.specs.Served.{IsCausedIn}
 
 -- No exchange is the cause Recovery.
 
@@ -62,16 +60,3 @@ caused_by_settle broken old (Err unsettled) new bounded left =
       unsettled = λ is. record { must_reset = refl; unknown = refl };
       settles = λ is. omega (arith, bounded);
     })
-
-left_in : (Holds : Broken → Type 0) (result : Result Session Broken) → IfErr result Holds
-    → IfLeft (answer_of result) (stands_of result) Holds
-left_in Holds (Ok session) holds = tt
-left_in Holds (Err broken) holds = holds
-
--- what the attempts of a request left
-pub left_by : (Holds : Broken → Type 0) (served : Served) (result : Result Session Broken)
-    → served.stands ≡ stands_of result → served.answer ≡ answer_of result → IfErr result Holds
-    → IfLeft served.answer served.stands Holds
-left_by Holds served result stands answer holds =
-    subst (λ s. IfLeft served.answer s Holds) (sym stands)
-    (subst (λ a. IfLeft a (stands_of result) Holds) (sym answer) (left_in Holds result holds))

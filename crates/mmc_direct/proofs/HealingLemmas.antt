@@ -1,6 +1,5 @@
 -- What attempts add to the counts.
 use Rattle.std.proofs.Common.{◌+◌, ◌∙◌, ◌≡◌, ◌≤◌, ap, arith, subst, sym, ℕ}
-use Rattle.std.specs.Prelude.{Err, Ok, Result}
 use Rattle.mmc_bus.specs.declared.cause.Cause.{Cause}
 use Rattle.mmc_recovery.specs.Healed.{with_attempt, with_failure}
 use Rattle.mmc_recovery.specs.declared.healed.Healed.{Healed}
@@ -9,9 +8,6 @@ use Rattle.mmc_switch.specs.declared.session.Session.{Session}
 use Rattle.mmc_direct.specs.Healing.{HasHealed, HasSettled, Heals, after_attempt}
 use Rattle.mmc_direct.specs.Healing.Heals.{again, first}
 use Rattle.mmc_requests.specs.declared.limits.TheConstants.{ATTEMPTS}
-use Rattle.mmc_direct.specs.Served.{IfServed, answer_of}
-use Rattle.mmc_switch.specs.Stands.{stands_of}
-use Rattle.mmc_direct.specs.declared.served.Served.{Served}
 use Rattle.mmc_switch.specs.declared.stands.Stands.{Stands}
 
 pub heals_first : (stands : Stands) (old settled : Healed) (left : Stands) (new : Healed) → HasSettled stands old settled
@@ -39,17 +35,3 @@ pub healed_in_vain : (stands : Stands) (old : Healed) (attempts : ℕ) (broken :
     → attempts ≤ ATTEMPTS → Heals stands old attempts (Stands.Broken broken) new → HasHealed stands old (Stands.Broken broken) new
 healed_in_vain stands old attempts broken new least few heals =
     record { attempts = attempts; all = omega (arith, least, few); heals = heals }
-
--- what a request that isn't refused adds
-served_by : (Holds : Stands → Type 0) (result : Result Session Broken) → Holds (stands_of result)
-    → IfServed (answer_of result) (Holds (stands_of result))
-served_by Holds (Ok session) holds = holds
-served_by Holds (Err broken) holds = holds
-
-pub healed_by : (stands : Stands) (old : Healed) (served : Served) (result : Result Session Broken) (new : Healed)
-    → served.stands ≡ stands_of result → served.answer ≡ answer_of result → HasHealed stands old (stands_of result) new
-    → IfServed served.answer (HasHealed stands old served.stands new)
-healed_by stands old served result new left answer healed =
-    subst (λ s. IfServed served.answer (HasHealed stands old s new)) (sym left)
-    (subst (λ a. IfServed a (HasHealed stands old (stands_of result) new)) (sym answer)
-    (served_by (λ s. HasHealed stands old s new) result healed))

@@ -1,7 +1,6 @@
 pub mod AttemptLemmas
 pub mod CauseLemmas
 pub mod HealingLemmas
-pub mod LentLemmas
+pub mod RefusalLemmas
 pub mod RequestLemmas
-pub mod ServeLemmas
 pub mod TriesLemmas

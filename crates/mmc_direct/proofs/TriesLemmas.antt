@@ -1,16 +1,13 @@
 -- Attempts one after the other, over any bus.
-use Rattle.std.proofs.Common.{◌*◌, ◌+◌, ◌-◌, ◌∙◌, ◌≡◌, ◌≤◌, [], arith, subst, true, ℕ}
+use Rattle.std.proofs.Common.{◌*◌, ◌+◌, ◌-◌, ◌∙◌, ◌≡◌, ◌≤◌, arith, subst, true, ℕ}
 use Rattle.std.specs.Prelude.{Err, IfErr, Ok, Result}
 use Rattle.mmc_card.specs.BusView.{BusView}
 use Rattle.mmc_card.specs.Sectors.{Change}
-use Rattle.mmc_card.specs.declared.part.Part.{Part}
 use Rattle.mmc_switch.specs.Info.{lasting}
 use Rattle.mmc_switch.specs.Place.{IsBroken}
-use Rattle.mmc_switch.specs.declared.info.Info.{Info}
 use Rattle.mmc_switch.specs.declared.broken.Broken.{Broken}
 use Rattle.mmc_switch.specs.declared.session.Session.{Session}
-use Rattle.mmc_direct.specs.Attempts.{HasTried, Tries, erasing, moving}
-use Rattle.mmc_requests.specs.Changes.{erased_at, written_at}
+use Rattle.mmc_direct.specs.Attempts.{HasTried, Tries}
 use Rattle.mmc_direct.specs.Served.{IsCausedIn}
 use Rattle.mmc_switch.specs.Stands.{StandsIn, info_of, stands_of}
 use Rattle.mmc_switch.specs.declared.stands.Stands.{Stands}
@@ -41,30 +38,8 @@ one_try each change stands a result b info bounded kept cause tried =
       tried = tried;
     }
 
--- the same of an erase or a trim, in terms of what was known of the card before
-pub one_erase : (info : Info) (broken : Broken) (part : Part) (start count : ℕ) (a : BusView) (result : Result Session Broken)
-    (b : BusView) → lasting broken.session.info ≡ lasting info
-    → lasting (info_of (stands_of result)) ≡ lasting broken.session.info → b.exchanges ≤ a.exchanges + erasing
-    → (b.is_kept ≡ true → a.is_kept ≡ true) → IfErr result (λ left. IsCausedIn 0 left a b)
-    → (b.is_kept ≡ true → IsBroken broken a → HasTried 1 (erased_at broken.session.info part start count) a result b)
-    → Tries 1 erasing (erased_at info part start count) (Stands.Broken broken) a result b
-one_erase info broken part start count a result b same now bounded kept cause tried =
-    subst (λ (i : Info). Tries 1 erasing (erased_at i part start count) (Stands.Broken broken) a result b) same
-    (one_try erasing (erased_at broken.session.info part start count) (Stands.Broken broken) a result b now bounded kept cause tried)
-
--- and of a read, in terms of the blocks as they were lent
-pub one_read : (was now : ℕ) (broken : Broken) (part : Part) (start : ℕ) (a : BusView) (result : Result Session Broken)
-    (b : BusView) → now ≡ was
-    → lasting (info_of (stands_of result)) ≡ lasting broken.session.info → b.exchanges ≤ a.exchanges + moving now
-    → (b.is_kept ≡ true → a.is_kept ≡ true) → IfErr result (λ left. IsCausedIn 0 left a b)
-    → (b.is_kept ≡ true → IsBroken broken a → HasTried 1 (written_at part start []) a result b)
-    → Tries 1 (moving was) (written_at part start []) (Stands.Broken broken) a result b
-one_read was now broken part start a result b count info bounded kept cause tried =
-    subst (λ n. Tries 1 (moving n) (written_at part start []) (Stands.Broken broken) a result b) count
-    (one_try (moving now) (written_at part start []) (Stands.Broken broken) a result b info bounded kept cause tried)
-
 -- one more, where all before it have failed
-pub tries_again : (attempts most : ℕ) (change : Change) (stands : Stands) (broken : Broken) (a b : BusView)
+tries_again : (attempts most : ℕ) (change : Change) (stands : Stands) (broken : Broken) (a b : BusView)
     (result : Result Session Broken) (c : BusView)
     → Tries attempts most change stands a (Err broken) b → Tries 1 most change (Stands.Broken broken) b result c
     → Tries (attempts + 1) most change stands a result c
@@ -82,6 +57,19 @@ tries_again attempts most change stands broken a b result c p q = record {
       let was = p.tried (q.kept kept) at in
       tried_again attempts change broken a b result c was (q.tried kept was.stands);
 }
+
+-- the same of one more at what is left of a request, which asks for the same and changes the same
+pub tries_once_more : (attempts each now : ℕ) (change again : Change) (stands : Stands) (broken : Broken) (a b : BusView)
+    (result : Result Session Broken) (c : BusView)
+    → now ≡ each → again ≡ change → Tries attempts each change stands a (Err broken) b
+    → lasting (info_of (stands_of result)) ≡ lasting broken.session.info → c.exchanges ≤ b.exchanges + now
+    → (c.is_kept ≡ true → b.is_kept ≡ true) → IfErr result (λ left. IsCausedIn 0 left b c)
+    → (c.is_kept ≡ true → IsBroken broken b → HasTried 1 again b result c) → Tries (attempts + 1) each change stands a result c
+tries_once_more attempts each now change again stands broken a b result c count same so_far info bounded kept cause tried =
+    tries_again attempts each change stands broken a b result c so_far
+    (subst (λ n. Tries 1 n change (Stands.Broken broken) b result c) count
+    (subst (λ (made : Change). Tries 1 now made (Stands.Broken broken) b result c) same
+    (one_try now again (Stands.Broken broken) b result c info bounded kept cause tried)))
 
 -- done, before all were used up
 pub tries_enough : (attempts most each : ℕ) (change : Change) (stands : Stands) (session : Session) (a b : BusView)

@@ -12,7 +12,9 @@ use Rattle.mmc_switch.specs.declared.session.Session.{Session}
 use Rattle.mmc_transfer.specs.declared.turns.TheConstants.{EXCHANGES_BESIDE_BLOCKS, EXCHANGES_OF_A_BLOCK}
 use Rattle.mmc_erase.specs.declared.turns.TheConstants.{EXCHANGES_OF_AN_ERASE}
 use Rattle.mmc_requests.specs.Changes.{TakesEffect}
+use Rattle.mmc_direct.specs.Asked.{exchanges_of_run}
 use Rattle.mmc_direct.specs.Served.{IsCausedIn}
+use Rattle.mmc_direct.specs.declared.asked.Asked.{Asked}
 use Rattle.mmc_switch.specs.Stands.{StandsIn, info_of, stands_of}
 use Rattle.mmc_direct.specs.declared.attempts.TheConstants.{EXCHANGES_BESIDE_A_RUN}
 use Rattle.mmc_switch.specs.declared.stands.Stands.{Stands}
@@ -24,6 +26,10 @@ moving count = EXCHANGES_OF_A_BLOCK * count + EXCHANGES_BESIDE_BLOCKS + EXCHANGE
 -- and of one that erases or trims
 abbrev pub erasing : ℕ
 erasing = EXCHANGES_OF_AN_ERASE + EXCHANGES_BESIDE_A_RUN
+
+-- and of one at what a request asks for, of any kind
+abbrev pub exchanges_of : Asked → ℕ
+exchanges_of asked = exchanges_of_run asked + EXCHANGES_BESIDE_A_RUN
 
 -- Before the run: no sector may hold more, and a failure takes a fault.
 pub record HasPrepared (old : BusView) (result : Result Session Broken) (new : BusView) : Type 0 where

@@ -5,14 +5,14 @@ use Rattle.mmc_bus.specs.Work.{Narrows}
 use Rattle.mmc_card.specs.BusView.{BusView}
 use Rattle.mmc_card.specs.Card.{holds}
 use Rattle.mmc_card.specs.Profile.{InProfile}
-use Rattle.mmc_card.specs.Sectors.{AreRead, Change, Sector, Within, maybe_changed}
+use Rattle.mmc_card.specs.Sectors.{AreRead, Change, Sector, Sets, Within, maybe_changed}
 use Rattle.mmc_card.specs.declared.part.Part.{Part}
 use Rattle.mmc_requests.specs.Changes.{TakesEffect}
 use Rattle.mmc_direct.specs.Served.{IfFailed}
 use Rattle.mmc_switch.specs.Stands.{StandsIn}
 use Rattle.mmc_direct.specs.declared.served.Served.{Served}
 
--- A write, an erase or a trim.
+-- A request that makes this change: a write, an erase or a trim. A read's change is one of no sector.
 pub record HasChanged (change : Change) (old : BusView) (served : Served) (new : BusView) : Type 0 where
   -- the same card, with no fewer faults
   pub stays : Stays old new
@@ -24,6 +24,11 @@ pub record HasChanged (change : Change) (old : BusView) (served : Served) (new :
   pub done : IfOk served.answer (λ _. TakesEffect change (holds old.card) (holds new.card))
   -- failed: on a card in profile four faults fell
   pub failed : InProfile old.card.made → IfFailed served.answer (λ _. old.faults + 4 ≤ new.faults)
+
+-- A request of any kind: it makes this change, and this is true of it once it is done, by what sectors may hold.
+pub record HasServed (change : Change) (Has : Sets → Type 0) (old : BusView) (served : Served) (new : BusView) : Type 0 where
+  pub changed : HasChanged change old served new
+  pub has : IfOk served.answer (λ _. Has (holds new.card))
 
 -- A read into these blocks.
 pub record HasRead (part : Part) (start : ℕ) (blocks : List Sector) (old : BusView) (served : Served)

@@ -14,13 +14,14 @@ ghost use Rattle.mmc_requests.specs.declared.limits.TheConstants.{ATTEMPTS};
 ghost use Rattle.mmc_direct.specs.Served.{AnswersBy, IfLeft, IfRefused, IfServed, IsCausedIn, refusal_in};
 ghost use Rattle.mmc_switch.specs.Stands.{StandsIn, info_of};
 
-use crate::retries::{keep_erasing, keep_reading, keep_writing};
-use crate::rules::refusal;
+use crate::erasing::Erasing;
+use crate::reading::Reading;
 use crate::served::Served;
+use crate::serving::serve;
+use crate::writing::Writing;
 use mmc_bus::{Blocks, BlocksMut, Bus, Part};
 use mmc_erase::How;
 use mmc_recovery::Healed;
-use mmc_requests::Kind;
 use mmc_switch::Stands;
 
 /// Reads these blocks, 1 to 65,535, from this sector of a partition on, in at most four attempts: each settles the card where
@@ -50,10 +51,12 @@ pub fn read<B: Bus, D: BlocksMut>(
     ensures served { (B.view bus.new).is_kept ≡ true → StandsIn stands (B.view bus.old)
         → HasRead part start (D.blocks blocks.new) (B.view bus.old) result (B.view bus.new) }
 {
-    match refusal(stands.info(), Kind::Read, part, start, blocks.len() as u64) {
-        Some(refused) => Served::refused(stands, refused),
-        None => Served::of(keep_reading(bus, healed, stands, part, start, blocks)),
-    }
+    let mut reading = Reading {
+        part,
+        start,
+        blocks,
+    };
+    serve(bus, healed, stands, &mut reading)
 }
 
 /// Writes these blocks, 1 to 65,535, from this sector of a partition on, in attempts as `read`. Where it has failed each sector
@@ -80,20 +83,12 @@ pub fn write<B: Bus, D: Blocks>(
     ensures served { (B.view bus.new).is_kept ≡ true → StandsIn stands (B.view bus.old)
         → HasChanged (written_at part start (D.blocks blocks.now)) (B.view bus.old) result (B.view bus.new) }
 {
-    match refusal(stands.info(), Kind::Write, part, start, blocks.len() as u64) {
-        Some(refused) => Served::refused(stands, refused),
-        None => Served::of(keep_writing(bus, healed, stands, part, start, blocks)),
-    }
-}
-
-/// What a request does that erases or trims.
-pub fn action_of(how: How) -> Kind
-    ensures { result ≡ kind_of_how how }
-{
-    match how {
-        How::Erase => Kind::Erase,
-        How::Trim => Kind::Trim,
-    }
+    let mut writing = Writing {
+        part,
+        start,
+        blocks,
+    };
+    serve(bus, healed, stands, &mut writing)
 }
 
 /// Erases or trims so many sectors, 1 or more, in attempts as `read`: an erase gives up whole erase units, the last of which may end
@@ -122,8 +117,11 @@ pub fn erase<B: Bus>(
     ensures served { (B.view bus.new).is_kept ≡ true → StandsIn stands (B.view bus.old)
         → HasChanged (erased_at (info_of stands) part start count) (B.view bus.old) result (B.view bus.new) }
 {
-    match refusal(stands.info(), action_of(how), part, start, count) {
-        Some(refused) => Served::refused(stands, refused),
-        None => Served::of(keep_erasing(bus, healed, stands, part, start, count, how)),
-    }
+    let mut erasing = Erasing {
+        part,
+        start,
+        count,
+        how,
+    };
+    serve(bus, healed, stands, &mut erasing)
 }

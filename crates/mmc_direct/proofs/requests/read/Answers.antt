@@ -1,30 +1,11 @@
-use Rattle.std.proofs.Common.{◌*◌, ◌-◌, length}
-use Rattle.mmc_bus.specs.Lending.IsRewritten.{nothing}
-use Rattle.mmc_direct.proofs.CauseLemmas.{left_by}
-use Rattle.mmc_direct.proofs.HealingLemmas.{healed_by}
+use Rattle.std.proofs.Common.{rules}
 use Rattle.mmc_direct.proofs.RequestLemmas.{has_read}
-use Rattle.mmc_direct.specs.Attempts.{moving}
-use Rattle.mmc_requests.specs.declared.limits.TheConstants.{ATTEMPTS}
-use Rattle.mmc_direct.specs.Served.{IsCausedIn}
 use Rattle.mmc_direct.proofs.requests.read.Goals as goal
 
-pub returns-in-Some-clause-lent : goal.returns-in-Some-clause-lent
-returns-in-Some-clause-lent g c = nothing
-
-pub returns-in-None-clause-served : goal.returns-in-None-clause-served
-returns-in-None-clause-served g c kept at =
-    let done = c.keep_reading.ensures in
-    has_read c.args.part c.args.start (g.D.Blocks.blocks c.keep_reading.new.blocks) (g.B.Bus.view c.args.bus.now)
-    c.of.result c.keep_reading.result (g.B.Bus.view c.keep_reading.new.bus) c.of.ensures.stands c.of.ensures.answer
-    (done.tries.tried kept at) (done.read kept at)
-
-pub returns-in-None-clause-cause : goal.returns-in-None-clause-cause
-returns-in-None-clause-cause g c =
-    left_by (λ broken. IsCausedIn ((ATTEMPTS - 1) * moving (length (g.D.Blocks.blocks c.args.blocks.now))) broken (g.B.Bus.view c.args.bus.now)
-    (g.B.Bus.view c.keep_reading.new.bus)) c.of.result c.keep_reading.result c.of.ensures.stands c.of.ensures.answer
-    c.keep_reading.ensures.tries.cause
-
-pub returns-in-None-clause-healed : goal.returns-in-None-clause-healed
-returns-in-None-clause-healed g c =
-    healed_by c.args.stands c.args.healed.now c.of.result c.keep_reading.result c.keep_reading.new.healed c.of.ensures.stands
-    c.of.ensures.answer c.keep_reading.ensures.healed
+pub returns-clause-served : goal.returns-clause-served
+returns-clause-served g c kept at =
+    let reading = c.serve.new.request in
+    let left = c.serve.ensures.leaves in
+    has_read c.args.part reading.part c.args.start reading.start _ (g.D.Blocks.blocks reading.blocks.now)
+    (g.B.Bus.view c.args.bus.now) c.serve.result (g.B.Bus.view c.serve.new.bus) left.0 left.1 (search rules)
+    (c.serve.ensures.served kept at)
