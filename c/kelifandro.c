@@ -72,11 +72,49 @@ enum { BLOCK = 512 };
 #define APART
 #endif
 
-/* The card of the call that is made: all else that a call keeps is in struct kelifandro_call. */
-#ifndef KELIFANDRO_THREAD
-#define KELIFANDRO_THREAD
+/* The number of its stream leads from a record back to the card of the call. It is the card's address; where that has more bits, the
+   lower half of the address of a place on the stack, where the card's address is kept: no two places on one stack are so far from each
+   other that this half doesn't tell them apart. So calls share no variable. A sanitizer mustn't put the place elsewhere. */
+#if defined __clang__
+#define ON_STACK __attribute__((__no_sanitize__("address", "hwaddress")))
+#elif defined __GNUC__
+#define ON_STACK __attribute__((__no_sanitize_address__))
+#else
+#define ON_STACK
 #endif
-static KELIFANDRO_THREAD struct kelifandro *now;
+#if defined __GNUC__
+#define HIDDEN(number) __asm__("" : "+r"(number)) /* no compiler may think that it still leads to the variable that it was had of */
+#else
+#define HIDDEN(number) (void)0
+#endif
+#if UINTPTR_MAX > UINT32_MAX
+typedef struct kelifandro *volatile place; /* volatile: it is read by a way that no compiler sees */
+
+static uint32_t stream_of(place *place)
+{
+    return (uint32_t)(uintptr_t)place;
+}
+
+ON_STACK static struct kelifandro *card_of(int32_t stream)
+{
+    char own;
+    uintptr_t here = (uintptr_t)&own;
+    HIDDEN(here);
+    return *(place *)(here + (uintptr_t)(intptr_t)(int32_t)((uint32_t)stream - (uint32_t)here));
+}
+#else
+typedef struct kelifandro *place;
+
+static uint32_t stream_of(place *place)
+{
+    return (uint32_t)(uintptr_t)*place;
+}
+
+static struct kelifandro *card_of(int32_t stream)
+{
+    return (struct kelifandro *)(uintptr_t)(uint32_t)stream;
+}
+#endif
 
 /* Whether the card is reached by a host; else by registers. */
 static int is_by_host(const struct kelifandro *kelifandro)
@@ -107,7 +145,7 @@ static int is_unserved_question(uint8_t index)
 static int is_unserved(const struct kelifandro_card *card)
 {
 #if defined KELIFANDRO_WITHOUT_MMC
-    return card->kind == 1;
+    return card->kind != 0;
 #elif defined KELIFANDRO_WITHOUT_SD
     return card->kind == 0;
 #else
@@ -148,9 +186,8 @@ static void answer_highest_first(uint8_t *bytes, uint32_t word)
 }
 
 /* Sends a command, by transfer where there is nothing else: a register that comes as a block is kept until it is asked for. */
-static int send_alone(const struct kelifandro_host *host, uint32_t response[4])
+static int send_alone(struct kelifandro_call *call, const struct kelifandro_host *host, uint32_t response[4])
 {
-    struct kelifandro_call *call = &now->call;
     struct kelifandro_moved moved = {0, 0};
     int fault;
     if (host->send)
@@ -160,9 +197,8 @@ static int send_alone(const struct kelifandro_host *host, uint32_t response[4])
     return fault;
 }
 
-static int read_alone(const struct kelifandro_host *host, uint8_t *bytes, size_t n)
+static int read_alone(struct kelifandro_call *call, const struct kelifandro_host *host, uint8_t *bytes, size_t n)
 {
-    struct kelifandro_call *call = &now->call;
     int answer = call->answer;
     if (host->read_block)
         return host->read_block(host->context, bytes, n);
@@ -181,9 +217,9 @@ static uint8_t fault_number(int fault)
 }
 
 /* The command of a record, and how many of the request's blocks may be moved with it. */
-static void take_command(const uint8_t *record)
+static void take_command(struct kelifandro_call *call, const uint8_t *record)
 {
-    struct kelifandro_command *command = &now->call.command;
+    struct kelifandro_command *command = &call->command;
     command->index = record[1];
     command->response = record[2];
     command->data = record[3];
@@ -191,19 +227,18 @@ static void take_command(const uint8_t *record)
     command->block_length = half_at(record + 8);
     command->blocks = half_at(record + 10);
     if (record[0] != SEND)
-        now->call.behind = half_at(record + 12);
+        call->behind = half_at(record + 12);
 }
 
 /* Sends it. Its answer has 16 bytes, and three more where blocks may be moved with it. */
-static void answer_command(const struct kelifandro_host *host, int is_with, uint8_t *bytes)
+static void answer_command(struct kelifandro_call *call, const struct kelifandro_host *host, int is_with, uint8_t *bytes)
 {
-    struct kelifandro_call *call = &now->call;
     struct kelifandro_moved moved = {0, 0};
     uint32_t response[4] = {0, 0, 0, 0};
     int is_long = call->command.response == KELIFANDRO_R2;
     int fault = is_with && host->transfer
                     ? host->transfer(host->context, &call->command, response, call->memory, call->behind, &moved)
-                    : send_alone(host, response);
+                    : send_alone(call, host, response);
     if (is_unserved_question(call->command.index))
         response[0] = 0;
     if (is_long) {
@@ -233,10 +268,10 @@ APART static void answer_long(uint8_t *bytes, uint64_t number)
     answer_word(bytes + 4, (uint32_t)(number >> 32));
 }
 
-enum { COMMAND = 0x0c, RESPONSE = 0x10, PRESENT_STATE = 0x24, CAPABILITIES = 0x40, THERE = 0x70000 };
+/* Bits 16 to 19 of Present State: a card is inserted, that is stable, its switch says so, and that it may be written to. */
+enum { COMMAND = 0x0c, RESPONSE = 0x10, PRESENT_STATE = 0x24, CAPABILITIES = 0x40, THERE = 0xf0000 };
 
-/* A register as the board knows it: a byte may be had by its word alone, and a card that is always there is inserted, and that is
-   stable. */
+/* A register as the board knows it: a byte may be had by its word alone, and a card that is always there has no switches. */
 static uint32_t read_of_board(const struct kelifandro_registers *registers, unsigned offset, unsigned size)
 {
     unsigned at = size == 1 && registers->is_by_words ? offset % 4 : 0;
@@ -288,9 +323,8 @@ static void write_port(const struct kelifandro_registers *registers, const uint8
         registers->write(registers->context, 0x20, 4, word_at(bytes + i));
 }
 
-static void take_back(const struct kelifandro_registers *registers)
+static void take_back(struct kelifandro_call *call, const struct kelifandro_registers *registers)
 {
-    struct kelifandro_call *call = &now->call;
     if (call->table_lent)
         registers->take_back(registers->context, registers->table, call->table_lent, 0);
     if (call->lent)
@@ -300,31 +334,29 @@ static void take_back(const struct kelifandro_registers *registers)
 
 /* Lends the first blocks of the request's memory for DMA, if the port can. An address that is none for the library is given back: then
    the blocks go through the Buffer Data Port. */
-APART static uint64_t lend(const struct kelifandro_registers *registers)
+APART static uint64_t lend(struct kelifandro_call *call, const struct kelifandro_registers *registers)
 {
-    struct kelifandro_call *call = &now->call;
     size_t n = (size_t)call->lent * BLOCK;
     uint64_t address = registers->lend ? registers->lend(registers->context, call->memory, n, call->is_room) : 0;
     if (!address)
         call->lent = 0;
     else if (address % 4 || n > UINT64_MAX - address)
-        take_back(registers);
+        take_back(call, registers);
     return address;
 }
 
 /* The next line of the table, as far as there is room. */
-static void put_line(const struct kelifandro_registers *registers, const uint8_t *line, size_t n)
+static void put_line(struct kelifandro_call *call, const struct kelifandro_registers *registers, const uint8_t *line, size_t n)
 {
-    size_t length = now->call.table_length;
+    size_t length = call->table_length;
     uint8_t *table = registers->table;
     for (size_t i = 0; length + n <= registers->table_size && i < n; i++)
         table[length + i] = line[i];
-    now->call.table_length = length + n;
+    call->table_length = length + n;
 }
 
-static uint64_t lend_table(const struct kelifandro_registers *registers)
+static uint64_t lend_table(struct kelifandro_call *call, const struct kelifandro_registers *registers)
 {
-    struct kelifandro_call *call = &now->call;
     uint64_t address = 0;
     if (call->table_length <= registers->table_size)
         address = registers->lend(registers->context, registers->table, call->table_length, 0);
@@ -334,34 +366,33 @@ static uint64_t lend_table(const struct kelifandro_registers *registers)
 
 #endif
 
-static void pause_for(uint32_t microseconds)
+static void pause_for(const struct kelifandro *kelifandro, uint32_t microseconds)
 {
-    if (is_by_host(now))
-        now->host->pause(now->host->context, microseconds);
+    if (is_by_host(kelifandro))
+        kelifandro->host->pause(kelifandro->host->context, microseconds);
     else
-        now->registers->pause(now->registers->context, microseconds);
+        kelifandro->registers->pause(kelifandro->registers->context, microseconds);
 }
 
 /* Does what a record says where nothing comes of it; else notes what is asked. */
-APART static int64_t take_record(const uint8_t *record, size_t n)
+APART static int64_t take_record(struct kelifandro *kelifandro, const uint8_t *record, size_t n)
 {
-    struct kelifandro_call *call = &now->call;
-    (void)call;
-    switch (now->call.operation) {
+    struct kelifandro_call *call = &kelifandro->call;
+    switch (call->operation) {
     case PAUSE:
-        pause_for(word_at(record + 1));
+        pause_for(kelifandro, word_at(record + 1));
         break;
 #ifndef KELIFANDRO_WITHOUT_HOST
     case SEND:
     case READ_WITH:
     case WRITE_WITH:
-        take_command(record);
+        take_command(call, record);
         break;
     case LOOK:
         call->look_time = word_at(record + 1);
         break;
     case SET_IOS:
-        now->host->set_ios(now->host->context, record[1], record[2], word_at(record + 3));
+        kelifandro->host->set_ios(kelifandro->host->context, record[1], record[2], word_at(record + 3));
         break;
 #endif
 #ifndef KELIFANDRO_WITHOUT_REGISTERS
@@ -370,7 +401,7 @@ APART static int64_t take_record(const uint8_t *record, size_t n)
         if (record[2] == COMMAND)
             call->command.index = record[6] & 0x3f;
 #endif
-        write_register(now->registers, record[2], record[1], word_at(record + 3));
+        write_register(kelifandro->registers, record[2], record[1], word_at(record + 3));
         break;
     case LEND_ROOM:
     case LEND_BLOCKS:
@@ -380,15 +411,15 @@ APART static int64_t take_record(const uint8_t *record, size_t n)
         break;
     case LINE:
     case LAST_LINE:
-        put_line(now->registers, record, n);
+        put_line(call, kelifandro->registers, record, n);
         break;
     case TAKE_PLACES:
         /* they have come to their places */
         call->came = call->lent;
-        take_back(now->registers);
+        take_back(call, kelifandro->registers);
         break;
     case TAKE_BACK:
-        take_back(now->registers);
+        take_back(call, kelifandro->registers);
         call->came = 0;
         break;
 #endif
@@ -397,30 +428,31 @@ APART static int64_t take_record(const uint8_t *record, size_t n)
 }
 
 /* A block, to the card's host or through the Buffer Data Port. */
-APART static int64_t take_block(const uint8_t *block)
+APART static int64_t take_block(struct kelifandro *kelifandro, const uint8_t *block)
 {
+    const struct kelifandro_host *host = kelifandro->host;
 #ifndef KELIFANDRO_WITHOUT_REGISTERS
-    if (!is_by_host(now)) {
-        write_port(now->registers, block, BLOCK);
+    if (!is_by_host(kelifandro)) {
+        write_port(kelifandro->registers, block, BLOCK);
         return BLOCK;
     }
 #endif
-    now->call.answer = now->host->write_block ? now->host->write_block(now->host->context, block) : 2;
-    now->call.operation = WROTE_BLOCK;
+    kelifandro->call.answer = host->write_block ? host->write_block(host->context, block) : 2;
+    kelifandro->call.operation = WROTE_BLOCK;
     return BLOCK;
 }
 
 /* A register is asked for most. */
 int64_t kelifandro_put(int32_t stream, const uint8_t *bytes, uint64_t n)
 {
-    struct kelifandro_call *call = &now->call;
-    (void)stream;
+    struct kelifandro *kelifandro = card_of(stream);
+    struct kelifandro_call *call = &kelifandro->call;
     call->came = 0;
     if (n == BLOCK)
-        return take_block(bytes);
+        return take_block(kelifandro, bytes);
     call->operation = bytes[0];
     if (call->operation != READ_REGISTER)
-        return take_record(bytes, (size_t)n);
+        return take_record(kelifandro, bytes, (size_t)n);
     call->size = bytes[1];
     call->offset = bytes[2];
     return 3;
@@ -428,67 +460,68 @@ int64_t kelifandro_put(int32_t stream, const uint8_t *bytes, uint64_t n)
 
 /* Whoever wants to show them has the registers that come as blocks: the SCR, and the EXT_CSD, which is what has the length of a sector in
    a call that reads none. */
-static void show(const uint8_t *bytes, size_t n)
+static void show(struct kelifandro *kelifandro, const uint8_t *bytes, size_t n)
 {
-    uint8_t *to = n == sizeof now->scr ? now->scr : n == BLOCK ? now->ext_csd : 0;
+    uint8_t *to = n == sizeof kelifandro->scr ? kelifandro->scr : n == BLOCK ? kelifandro->ext_csd : 0;
     for (size_t i = 0; to && i < n; i++)
         to[i] = bytes[i];
 }
 
 /* The next block: a good one comes whole, a bad one as one byte, or none. */
-static int64_t answer_block(uint8_t *bytes, size_t n)
+static int64_t answer_block(struct kelifandro *kelifandro, uint8_t *bytes, size_t n)
 {
+    struct kelifandro_call *call = &kelifandro->call;
     int what = 0;
 #ifndef KELIFANDRO_WITHOUT_HOST
-    if (is_by_host(now))
-        what = read_alone(now->host, bytes, n);
+    if (is_by_host(kelifandro))
+        what = read_alone(call, kelifandro->host, bytes, n);
 #endif
 #ifndef KELIFANDRO_WITHOUT_REGISTERS
-    if (!is_by_host(now))
-        read_port(now->registers, bytes, n);
+    if (!is_by_host(kelifandro))
+        read_port(kelifandro->registers, bytes, n);
 #endif
     if (what == 1)
-        now->call.operation = GOT_BAD;
+        call->operation = GOT_BAD;
     if (what != 0)
         return what == 1;
-    if (now->call.memory == now->call.block)
-        show(bytes, n);
+    if (call->memory == call->block)
+        show(kelifandro, bytes, n);
     return (int64_t)n;
 }
 
 /* What comes of the last record or block, once. */
-APART static int64_t answer(uint8_t *bytes, size_t n)
+APART static int64_t answer(struct kelifandro *kelifandro, uint8_t *bytes, size_t n)
 {
-    struct kelifandro_call *call = &now->call;
+    struct kelifandro_call *call = &kelifandro->call;
     uint8_t asked = call->operation;
     call->operation = NOTHING;
     switch (asked) {
     case NOTHING:
-        return answer_block(bytes, n);
+        return answer_block(kelifandro, bytes, n);
 #ifndef KELIFANDRO_WITHOUT_HOST
     case SEND:
     case READ_WITH:
     case WRITE_WITH:
-        answer_command(now->host, asked != SEND, bytes);
+        answer_command(call, kelifandro->host, asked != SEND, bytes);
         return (int64_t)n;
     case LOOK:
-        *bytes = now->host->is_busy(now->host->context, call->look_time) != 0;
+        *bytes = kelifandro->host->is_busy(kelifandro->host->context, call->look_time) != 0;
         return 1;
     case WROTE_BLOCK:
         *bytes = call->answer == 0 ? 1 : call->answer == 1 ? 2 : 0;
         return 1;
     case LIMITS:
-        bytes[0] = now->host->lines;
-        bytes[1] = now->host->high_speed;
+        bytes[0] = kelifandro->host->lines;
+        bytes[1] = kelifandro->host->high_speed;
         return 2;
 #endif
 #ifndef KELIFANDRO_WITHOUT_REGISTERS
     case LEND_ROOM:
     case LEND_BLOCKS:
-        answer_long(bytes, lend(now->registers));
+        answer_long(bytes, lend(call, kelifandro->registers));
         return 8;
     case LEND_TABLE:
-        answer_long(bytes, lend_table(now->registers));
+        answer_long(bytes, lend_table(call, kelifandro->registers));
         return 8;
 #endif
     default:
@@ -498,14 +531,14 @@ APART static int64_t answer(uint8_t *bytes, size_t n)
 
 #ifndef KELIFANDRO_WITHOUT_REGISTERS
 /* The register that was asked for. */
-APART static int64_t answer_register(uint8_t *bytes)
+APART static int64_t answer_register(struct kelifandro *kelifandro, uint8_t *bytes)
 {
-    struct kelifandro_call *call = &now->call;
+    struct kelifandro_call *call = &kelifandro->call;
     call->operation = NOTHING;
     if (call->offset == RESPONSE && is_unserved_question(call->command.index))
         answer_word(bytes, 0);
     else
-        answer_word(bytes, read_register(now->registers, call->offset, call->size));
+        answer_word(bytes, read_register(kelifandro->registers, call->offset, call->size));
     return 4;
 }
 #endif
@@ -513,17 +546,17 @@ APART static int64_t answer_register(uint8_t *bytes)
 /* Blocks that have come with a command are in their places already. */
 int64_t kelifandro_get(int32_t stream, uint8_t *bytes, uint64_t n)
 {
-    struct kelifandro_call *call = &now->call;
-    (void)stream;
+    struct kelifandro *kelifandro = card_of(stream);
+    struct kelifandro_call *call = &kelifandro->call;
     if (call->came) {
         call->came -= (uint16_t)((uint32_t)n / BLOCK);
         return (int64_t)n;
     }
 #ifndef KELIFANDRO_WITHOUT_REGISTERS
     if (call->operation == READ_REGISTER)
-        return answer_register(bytes);
+        return answer_register(kelifandro, bytes);
 #endif
-    return answer(bytes, (size_t)n);
+    return answer(kelifandro, bytes, (size_t)n);
 }
 
 static int has_way(const struct kelifandro *kelifandro)
@@ -563,34 +596,33 @@ static int32_t ended(const struct kelifandro *kelifandro, int32_t result)
     return result;
 }
 
-/* A call begins: it may come while another one is made, of another card. Answers the way's number. Where no sector is named the memory
-   isn't looked at, and may be a null pointer; the library wants one that isn't. */
+/* A call begins. Answers the way's number. Where no sector is named the memory isn't looked at, and may be a null pointer; the library
+   wants one that isn't. */
 APART static uint8_t begin(struct kelifandro *kelifandro, const void *memory, size_t count)
 {
     struct kelifandro_call *call = &kelifandro->call;
-    call->before = now;
     call->memory = count ? (void *)memory : call->block;
     call->resets = (uint32_t)kelifandro->healed.resets;
     call->operation = NOTHING;
     call->came = call->lent = 0;
     call->table_lent = 0;
-    now = kelifandro;
     return !is_by_host(kelifandro);
 }
 
 /* It ends. In two bytes of the card nothing is kept: the library may leave any there. */
 APART static int32_t end(struct kelifandro *kelifandro, int32_t result)
 {
-    now = kelifandro->call.before;
     kelifandro->card.unused[0] = kelifandro->card.unused[1] = 0;
     if ((uint32_t)kelifandro->healed.resets != kelifandro->call.resets)
         kelifandro->was_reset = 1;
     return ended(kelifandro, result);
 }
 
-APART static int32_t open_once(struct kelifandro *kelifandro)
+ON_STACK APART static int32_t open_once(struct kelifandro *kelifandro)
 {
-    return end(kelifandro, kelifandro_open_by(begin(kelifandro, 0, 0), &kelifandro->card, &kelifandro->healed));
+    place at = kelifandro;
+    uint8_t way = begin(kelifandro, 0, 0);
+    return end(kelifandro, kelifandro_open_by(stream_of(&at), way, &kelifandro->card, &kelifandro->healed));
 }
 
 /* Where the card's power can be switched it is on, and a card that isn't found has been without it once. */
@@ -613,10 +645,12 @@ int32_t kelifandro_open(struct kelifandro *kelifandro)
     if (!has_way(kelifandro))
         return KELIFANDRO_NO_HOST;
     kelifandro->card.state = 0;
-    if (host && host->is_inserted && !host->is_inserted(host->context))
-        return KELIFANDRO_NOT_INSERTED;
     for (size_t i = 0; i < sizeof kelifandro->scr; i++)
         kelifandro->scr[i] = 0;
+    for (size_t i = 0; kelifandro->ext_csd && i < BLOCK; i++)
+        kelifandro->ext_csd[i] = 0;
+    if (host && host->is_inserted && !host->is_inserted(host->context))
+        return KELIFANDRO_NOT_INSERTED;
     result = host && host->set_power ? open_with_power(kelifandro, host) : open_once(kelifandro);
     kelifandro->was_reset = 0;
     return result;
@@ -637,31 +671,34 @@ void kelifandro_close(struct kelifandro *kelifandro)
         kelifandro->host->set_power(kelifandro->host->context, 0);
 }
 
-/* What a request is answered before the proved library sees it; DONE where that judges it. */
-APART static int32_t refused(const struct kelifandro *kelifandro)
+/* What a request is answered before the proved library sees it; DONE where that judges it, as it does where there is no such partition. */
+APART static int32_t refused(const struct kelifandro *kelifandro, enum kelifandro_part part)
 {
     if (!has_way(kelifandro))
         return KELIFANDRO_NO_HOST;
-    return is_unserved(&kelifandro->card) ? KELIFANDRO_NOT_OPEN : KELIFANDRO_DONE;
+    return is_unserved(&kelifandro->card) && part_number(part) <= KELIFANDRO_GP4 ? KELIFANDRO_NOT_OPEN : KELIFANDRO_DONE;
 }
 
 /* Reads into the memory, or writes what is there. */
-APART static int32_t move(struct kelifandro *kelifandro, enum kelifandro_part part, uint64_t start, size_t count, const void *bytes,
+ON_STACK APART static int32_t move(struct kelifandro *kelifandro, enum kelifandro_part part, uint64_t start, size_t count, const void *bytes,
                           int is_write)
 {
+    place at = kelifandro;
     uint8_t way, number = part_number(part);
     void *memory;
-    int32_t result = refused(kelifandro);
+    int32_t result = refused(kelifandro, part);
     if (result != KELIFANDRO_DONE)
         return result;
     way = begin(kelifandro, bytes, count);
     memory = kelifandro->call.memory;
 #ifndef KELIFANDRO_WITHOUT_WRITE
     if (is_write)
-        return end(kelifandro, kelifandro_write_by(way, &kelifandro->card, &kelifandro->healed, number, start, memory, at_most(count)));
+        return end(kelifandro, kelifandro_write_by(stream_of(&at), way, &kelifandro->card, &kelifandro->healed, number, start, memory,
+                                                   at_most(count)));
 #endif
     (void)is_write;
-    return end(kelifandro, kelifandro_read_by(way, &kelifandro->card, &kelifandro->healed, number, start, memory, at_most(count)));
+    return end(kelifandro, kelifandro_read_by(stream_of(&at), way, &kelifandro->card, &kelifandro->healed, number, start, memory,
+                                              at_most(count)));
 }
 
 int32_t kelifandro_read(struct kelifandro *kelifandro, enum kelifandro_part part, uint64_t start, size_t count, void *bytes)
@@ -679,15 +716,17 @@ int32_t kelifandro_write(struct kelifandro *kelifandro, enum kelifandro_part par
 
 #ifndef KELIFANDRO_WITHOUT_ERASE
 /* Erases the sectors, or trims them. */
-APART static int32_t give_up(struct kelifandro *kelifandro, enum kelifandro_part part, uint64_t start, uint64_t count, int is_trim)
+ON_STACK APART static int32_t give_up(struct kelifandro *kelifandro, enum kelifandro_part part, uint64_t start, uint64_t count, int is_trim)
 {
+    place at = kelifandro;
     uint8_t way, number = part_number(part);
-    int32_t result = refused(kelifandro);
+    int32_t result = refused(kelifandro, part);
     if (result != KELIFANDRO_DONE)
         return result;
     way = begin(kelifandro, 0, 0);
-    return end(kelifandro, is_trim ? kelifandro_trim_by(way, &kelifandro->card, &kelifandro->healed, number, start, count)
-                                   : kelifandro_erase_by(way, &kelifandro->card, &kelifandro->healed, number, start, count));
+    return end(kelifandro,
+               is_trim ? kelifandro_trim_by(stream_of(&at), way, &kelifandro->card, &kelifandro->healed, number, start, count)
+                       : kelifandro_erase_by(stream_of(&at), way, &kelifandro->card, &kelifandro->healed, number, start, count));
 }
 
 int32_t kelifandro_erase(struct kelifandro *kelifandro, enum kelifandro_part part, uint64_t start, uint64_t count)
@@ -706,7 +745,7 @@ static size_t longest(const struct kelifandro *kelifandro)
 {
     const struct kelifandro_registers *registers = is_by_host(kelifandro) ? 0 : kelifandro->registers;
     size_t lines = registers && registers->lend ? registers->table_size / 12 : 0;
-    return lines && lines < MOST / 64 ? 64 * lines : MOST;
+    return lines && lines <= MOST / 64 ? 64 * lines : MOST;
 }
 
 /* Reads or writes any number of sectors, none where they don't all lie in the partition. */

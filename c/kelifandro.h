@@ -20,10 +20,8 @@
 
    A small library is made without a way to the card, a kind of card, or erasing and writing: c/build --without, docs/PORTING.md.
 
-   All that it keeps is in struct kelifandro, but for one pointer to the card of the call that is made. So a function that it calls, or
-   an interrupt, may call it for another card meanwhile, which then ends first. Calls of several threads may overlap, each for a card of
-   its own, where kelifandro.c is compiled with -DKELIFANDRO_THREAD=__thread (or _Thread_local): each thread has a pointer of its own
-   then. Two calls for one card must not overlap. */
+   All that it keeps is in struct kelifandro. Calls for several cards may be made at the same time, by threads, out of a function that the
+   library calls, or by an interrupt. Two calls for one card must not overlap. */
 #ifndef KELIFANDRO_H
 #define KELIFANDRO_H
 #include <stddef.h>
@@ -181,16 +179,17 @@ struct kelifandro_registers {
        a controller can't reach is taken back at once, and goes through the Buffer Data Port: without bit 28 what lies beyond 32 bits, with
        it what doesn't begin at a multiple of 8 there, and by SDMA what crosses a multiple of 512 KiB.
        take_back: these bytes, which were lent, are the library's again: where they were written to, they hold what the controller has
-       left there. The controller is at rest then. */
+       left there. The controller is at rest then.
+       Both are barriers, of the compiler and of the processor: nothing else here tells either that a controller reads and writes memory. */
     uint64_t (*lend)(void *context, void *bytes, size_t n, int is_written);
     void (*take_back)(void *context, void *bytes, size_t n, int is_written);
     /* Memory for a table that ADMA2 wants, which is lent by `lend` too, at a bus address that is a multiple of 8 and within 32 bits where
        the request's memory is: 8 bytes for each 64 sectors of a request, or 12 beyond 32 bits; 8,192 serve each request there. Without it,
-       and where a request wants more, it goes through the Buffer Data Port. */
+       and where a request wants more, it goes through the Buffer Data Port: kelifandro_read_long makes parts that fit. */
     void *table;
     size_t table_size;
     /* What a board knows in place of its controller; 0 is as the registers say. */
-    uint8_t is_there;      /* 1: there is always a card: it is soldered, or the slot's switch isn't wired */
+    uint8_t is_there;      /* 1: there is always a card, that may be written to: it is soldered, or the slot's switches aren't wired */
     uint8_t is_by_words;   /* 1: the controller takes 32-bit accesses alone: `size` is 4 then, and `offset` a multiple of 4 */
     uint32_t capabilities; /* where it isn't 0, in place of all of Capabilities (40h): the base clock in MHz in bits 15 to 8, rounded up, and
                               bits 18 for eight lines that are wired, 19 for ADMA2, 21 for high speed, 22 for SDMA, 24 for 3.3 V, and 28 for
@@ -248,8 +247,7 @@ struct kelifandro_healed {
 
 /* What the library keeps of the call that is made. Nobody else reads or writes it, and between two calls it means nothing. */
 struct kelifandro_call {
-    struct kelifandro *before; /* the card of the call that this one was made in */
-    uint32_t resets;           /* that were counted before, the lower half */
+    uint32_t resets; /* that were counted before, the lower half */
     /* The memory of the request, and how many bytes of a table for DMA have come and are lent. */
     void *memory;
     size_t table_length, table_lent;
@@ -270,7 +268,7 @@ struct kelifandro {
     struct kelifandro_healed healed;
     /* The SCR of an SD card as it came, bits 63 to 56 first (SD Physical Layer 6.00, section 5.6); 0 of an eMMC device. */
     uint8_t scr[8];
-    /* May be 0. 512 bytes for the EXT_CSD of an eMMC device, to which it is copied as it came (JESD84-B51, section 7.4). */
+    /* May be 0. 512 bytes for the EXT_CSD of an eMMC device, to which it is copied as it came (JESD84-B51, section 7.4); 0 of an SD card. */
     uint8_t *ext_csd;
     /* 1 once the card was reset and identified anew within a call after opening: its registers said that it is the same card, and who
        keeps blocks of it elsewhere and can't rely on that drops them, and writes 0 here. */

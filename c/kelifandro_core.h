@@ -1,8 +1,9 @@
 /* What kelifandro.c and the proved library call of each other, with the same widths on every processor. Not for users: theirs is
    kelifandro.h.
 
-   `way` is 0 for a host, 1 for registers. `card` is a struct kelifandro_card, `healed` a struct kelifandro_healed, `blocks` so many
-   blocks of 512 bytes. All pointers lead to something, also that of no blocks. */
+   `stream` is a number of the caller's choice, which comes back with each record of the call, as a signed one. `way` is 0 for a host, 1
+   for registers. `card` is a struct kelifandro_card, `healed` a struct kelifandro_healed, `blocks` so many blocks of 512 bytes. All
+   pointers lead to something, also that of no blocks. */
 #ifndef KELIFANDRO_CORE_H
 #define KELIFANDRO_CORE_H
 #include <stdint.h>
@@ -12,10 +13,12 @@ int64_t kelifandro_put(int32_t stream, const uint8_t *bytes, uint64_t n);
 int64_t kelifandro_get(int32_t stream, uint8_t *bytes, uint64_t n);
 
 /* Of the library. Each answers an enum kelifandro_result. */
-int32_t kelifandro_open_by(uint8_t way, void *card, void *healed);
-int32_t kelifandro_read_by(uint8_t way, void *card, void *healed, uint8_t part, uint64_t start, void *blocks, uint64_t count);
-int32_t kelifandro_write_by(uint8_t way, void *card, void *healed, uint8_t part, uint64_t start, const void *blocks, uint64_t count);
-int32_t kelifandro_erase_by(uint8_t way, void *card, void *healed, uint8_t part, uint64_t start, uint64_t count);
-int32_t kelifandro_trim_by(uint8_t way, void *card, void *healed, uint8_t part, uint64_t start, uint64_t count);
+int32_t kelifandro_open_by(uint32_t stream, uint8_t way, void *card, void *healed);
+int32_t kelifandro_read_by(uint32_t stream, uint8_t way, void *card, void *healed, uint8_t part, uint64_t start, void *blocks,
+                           uint64_t count);
+int32_t kelifandro_write_by(uint32_t stream, uint8_t way, void *card, void *healed, uint8_t part, uint64_t start, const void *blocks,
+                            uint64_t count);
+int32_t kelifandro_erase_by(uint32_t stream, uint8_t way, void *card, void *healed, uint8_t part, uint64_t start, uint64_t count);
+int32_t kelifandro_trim_by(uint32_t stream, uint8_t way, void *card, void *healed, uint8_t part, uint64_t start, uint64_t count);
 
 #endif

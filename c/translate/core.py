@@ -120,6 +120,8 @@ class Core:
             return self.names.fresh(of_path(function.name), 'f_')
         if self.prototype_of(function) is None:
             raise function.line.refused('a function that the inner header lacks')
+        if any(kind.startswith('int') for kind in self.prototype_of(function).types):
+            raise function.line.refused('a signed number comes in: here they are unsigned')
         return function.name
 
     def prototype_of(self, function):

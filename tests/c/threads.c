@@ -1,11 +1,11 @@
-/* Two threads, each with a card of its own, whose calls overlap: the library is compiled with a pointer a thread (KELIFANDRO_THREAD).
-   Prints how many sectors were written and read, and ends with status 0 where none was wrong. */
+/* Threads, each with a card of its own, whose calls overlap. Prints how many sectors were written and read, and ends with status 0 where
+   none was wrong. */
 #include <pthread.h>
 #include <stdio.h>
 #include <string.h>
 #include "card.h"
 
-enum { THREADS = 2, ROUNDS = 2000, RUN = 8 };
+enum { THREADS = 4, ROUNDS = 2000, RUN = 8 };
 static struct card cards[THREADS];
 static pthread_barrier_t barrier;
 
@@ -18,7 +18,7 @@ static void *work(void *argument)
     struct kelifandro sd = {.host = &host};
     unsigned long wrong = 0;
     host.context = card;
-    card_begin(card, 0);
+    card_begin(card, own % 2);
     pthread_barrier_wait(&barrier);
     wrong += kelifandro_open(&sd) != KELIFANDRO_DONE;
     for (unsigned i = 0; i < ROUNDS; i++) {

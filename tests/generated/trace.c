@@ -86,7 +86,6 @@ static uint64_t bytes_of(int64_t answer, uint64_t n)
 WRAPPED(int64_t, kelifandro_put, (int32_t stream, const uint8_t *record, uint64_t n))
 {
     passed++;
-    number((uint64_t)(int64_t)stream);
     bytes(record, n);
     if (!put_again)
         __real_kelifandro_put(stream, record, n);
@@ -100,7 +99,6 @@ WRAPPED(int64_t, kelifandro_put, (int32_t stream, const uint8_t *record, uint64_
 WRAPPED(int64_t, kelifandro_get, (int32_t stream, uint8_t *record, uint64_t n))
 {
     passed++;
-    number((uint64_t)(int64_t)stream);
     number(n);
     if (kept_from == kept_to) {
         int64_t all = __real_kelifandro_get(stream, record, n);
@@ -122,33 +120,36 @@ static uint8_t part_of(uint8_t part)
     return part == NO_PART ? trace_no_part : part;
 }
 
-WRAPPED(int32_t, kelifandro_open_by, (uint8_t way, void *card, void *healed))
+WRAPPED(int32_t, kelifandro_open_by, (uint32_t stream, uint8_t way, void *card, void *healed))
 {
-    return ended(__real_kelifandro_open_by(way, card, healed), card, healed);
+    return ended(__real_kelifandro_open_by(stream, way, card, healed), card, healed);
 }
 
-WRAPPED(int32_t, kelifandro_read_by, (uint8_t way, void *card, void *healed, uint8_t part, uint64_t start, void *blocks, uint64_t count))
+WRAPPED(int32_t, kelifandro_read_by,
+        (uint32_t stream, uint8_t way, void *card, void *healed, uint8_t part, uint64_t start, void *blocks, uint64_t count))
 {
-    int32_t result = ended(__real_kelifandro_read_by(way, card, healed, part_of(part), start, blocks, count), card, healed);
+    int32_t result = ended(__real_kelifandro_read_by(stream, way, card, healed, part_of(part), start, blocks, count), card, healed);
     if (result == KELIFANDRO_DONE)
         bytes(blocks, 512 * count);
     return result;
 }
 
 WRAPPED(int32_t, kelifandro_write_by,
-        (uint8_t way, void *card, void *healed, uint8_t part, uint64_t start, const void *blocks, uint64_t count))
+        (uint32_t stream, uint8_t way, void *card, void *healed, uint8_t part, uint64_t start, const void *blocks, uint64_t count))
 {
-    return ended(__real_kelifandro_write_by(way, card, healed, part_of(part), start, blocks, count), card, healed);
+    return ended(__real_kelifandro_write_by(stream, way, card, healed, part_of(part), start, blocks, count), card, healed);
 }
 
-WRAPPED(int32_t, kelifandro_erase_by, (uint8_t way, void *card, void *healed, uint8_t part, uint64_t start, uint64_t count))
+WRAPPED(int32_t, kelifandro_erase_by,
+        (uint32_t stream, uint8_t way, void *card, void *healed, uint8_t part, uint64_t start, uint64_t count))
 {
-    return ended(__real_kelifandro_erase_by(way, card, healed, part_of(part), start, count), card, healed);
+    return ended(__real_kelifandro_erase_by(stream, way, card, healed, part_of(part), start, count), card, healed);
 }
 
-WRAPPED(int32_t, kelifandro_trim_by, (uint8_t way, void *card, void *healed, uint8_t part, uint64_t start, uint64_t count))
+WRAPPED(int32_t, kelifandro_trim_by,
+        (uint32_t stream, uint8_t way, void *card, void *healed, uint8_t part, uint64_t start, uint64_t count))
 {
-    return ended(__real_kelifandro_trim_by(way, card, healed, part_of(part), start, count), card, healed);
+    return ended(__real_kelifandro_trim_by(stream, way, card, healed, part_of(part), start, count), card, healed);
 }
 
 static void tell(void) __attribute__((destructor));

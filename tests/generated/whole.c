@@ -4,12 +4,13 @@
 
 static int64_t kelifandro_put(int32_t stream, const uint8_t *bytes, uint64_t n);
 static int64_t kelifandro_get(int32_t stream, uint8_t *bytes, uint64_t n);
-static int32_t kelifandro_open_by(uint8_t way, void *card, void *healed);
-static int32_t kelifandro_read_by(uint8_t way, void *card, void *healed, uint8_t part, uint64_t start, void *blocks, uint64_t count);
-static int32_t kelifandro_write_by(uint8_t way, void *card, void *healed, uint8_t part, uint64_t start, const void *blocks,
+static int32_t kelifandro_open_by(uint32_t stream, uint8_t way, void *card, void *healed);
+static int32_t kelifandro_read_by(uint32_t stream, uint8_t way, void *card, void *healed, uint8_t part, uint64_t start, void *blocks,
+                                  uint64_t count);
+static int32_t kelifandro_write_by(uint32_t stream, uint8_t way, void *card, void *healed, uint8_t part, uint64_t start, const void *blocks,
                                    uint64_t count);
-static int32_t kelifandro_erase_by(uint8_t way, void *card, void *healed, uint8_t part, uint64_t start, uint64_t count);
-static int32_t kelifandro_trim_by(uint8_t way, void *card, void *healed, uint8_t part, uint64_t start, uint64_t count);
+static int32_t kelifandro_erase_by(uint32_t stream, uint8_t way, void *card, void *healed, uint8_t part, uint64_t start, uint64_t count);
+static int32_t kelifandro_trim_by(uint32_t stream, uint8_t way, void *card, void *healed, uint8_t part, uint64_t start, uint64_t count);
 
 #include "kelifandro.c"
 /* both have a function of this name */

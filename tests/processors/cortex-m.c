@@ -22,7 +22,12 @@ void reset(void)
     exit(main(0, none));
 }
 
-__attribute__((section(".vectors"), used)) static void *const vectors[16] = {stack_top, (void *)reset};
+/* The timer's interrupt, where the program has one. */
+__attribute__((weak)) void tick(void)
+{
+}
+
+__attribute__((section(".vectors"), used)) static void *const vectors[16] = {stack_top, (void *)reset, [15] = (void *)tick};
 
 /* What the C library calls before and after main. */
 void _init(void)

@@ -75,6 +75,38 @@ static int is_left_alone(int is_emmc, int by_registers)
     return is_lost && kelifandro_read(&sd, KELIFANDRO_USER, 0, 1, data) == KELIFANDRO_NOT_OPEN && !kelifandro_sectors(&sd, KELIFANDRO_USER);
 }
 
+static void requests(unsigned n)
+{
+    kelifandro_read(&sd, (enum kelifandro_part)(n % 9), n % 3, 1, data);
+#ifndef KELIFANDRO_WITHOUT_WRITE
+    kelifandro_write(&sd, KELIFANDRO_USER, n % 2048, 1, data);
+#ifndef KELIFANDRO_WITHOUT_ERASE
+    kelifandro_erase(&sd, KELIFANDRO_USER, 0, 1024);
+#endif
+#endif
+}
+
+/* A record of any bytes does no harm: in turn each bit of one that was noted is another one, and then all are of any kind. */
+static void any_records(int is_emmc, int by_registers)
+{
+    uint8_t noted[sizeof sd.card], *record = (uint8_t *)&sd.card;
+    uint32_t any = 1;
+    begin(is_emmc, by_registers);
+    kelifandro_open(&sd);
+    memcpy(noted, record, sizeof noted);
+    for (unsigned bit = 0; bit < 8 * sizeof noted; bit++) {
+        memcpy(record, noted, sizeof noted);
+        record[bit / 8] ^= (uint8_t)(1 << bit % 8);
+        requests(bit);
+    }
+    for (unsigned n = 0; n < 4000; n++) {
+        for (size_t i = 0; i < sizeof noted; i++)
+            record[i] = (uint8_t)((any = any * 1664525u + 1013904223u) >> 24);
+        record[0] %= 4;
+        requests(n);
+    }
+}
+
 int main(void)
 {
 #ifdef KELIFANDRO_WITHOUT_HOST
@@ -93,6 +125,7 @@ int main(void)
 #endif
     for (int by_registers = first; by_registers <= last; by_registers++)
         for (int is_emmc = 0; is_emmc < 2; is_emmc++) {
+            any_records(is_emmc, by_registers);
             if (is_emmc == unserved) {
                 if (!is_left_alone(is_emmc, by_registers))
                     return 1;

@@ -32,14 +32,17 @@ use mmc_sdhci::{Line, Table};
 /// notes the bytes that were read.
 #[derive(Drop)]
 pub struct Stream {
-    number: i32,
+    /// Its number, by which C tells the calls apart that are made at the same time.
+    pub number: i32,
+    /// What went over it.
     pub diary: Diary,
 }
 
 impl Stream {
     /// The stream with this number, over which nothing has gone.
     pub fn new(number: i32) -> Stream
-        ensures { result.diary.past ≡ [] }
+        ensures number { result.number ≡ number }
+        ensures past { result.diary.past ≡ [] }
     {
         Stream {
             number,

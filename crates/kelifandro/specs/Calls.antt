@@ -1,6 +1,7 @@
 -- What a call begins with, and what becomes of it.
 use Rattle.std.specs.Prelude.{◌&&◌, ◌==◌, ◌≡◌, [], Bool, None, Option, Result, Some, nat_lt, negsuc, pos, true, ℕ, ℤ}
 use Rattle.c_host.specs.declared.registers.CRegisters.{CRegisters}
+use Rattle.c_host.specs.declared.stream.Stream.{Stream}
 use Rattle.c_host.specs.declared.way.Given.{Given}
 use Rattle.c_host.specs.declared.way.Given.TheVariants.{Host, Registers}
 use Rattle.mmc_calls.specs.Noted.{IsCounted, lines_in}
@@ -22,10 +23,14 @@ use Rattle.kelifandro.specs.Answers.{answer_number, refused_number}
 abbrev pub IsAsNoted : Stands → CardRecord → Type 0
 IsAsNoted stands note = (noted : Stands) → IsNoteOf noted note → stands ≡ noted
 
--- 0 is a host, anything else registers; C was told nothing over it yet
-abbrev pub IsGiven : ℕ → Given CRegisters → Type 0
-IsGiven way (Host stream) = (way ≡ 0) × (stream.diary.past ≡ [])
-IsGiven way (Registers registers) = (way ≡ 0 → ⊥) × (registers.stream.diary.past ≡ [])
+-- the stream with this number, over which C was told nothing yet
+abbrev pub IsNew : ℤ → Stream → Type 0
+IsNew number stream = (stream.number ≡ number) × (stream.diary.past ≡ [])
+
+-- 0 is a host, anything else registers, over this stream
+abbrev pub IsGiven : ℤ → ℕ → Given CRegisters → Type 0
+IsGiven number way (Host stream) = (way ≡ 0) × IsNew number stream
+IsGiven number way (Registers registers) = (way ≡ 0 → ⊥) × IsNew number registers.stream
 
 -- where a card is noted, and there is a partition of this number, this holds of how it stands and of the partition
 abbrev pub IfNoted : CardRecord → ℕ → (Stands → Part → Type 0) → Type 0

@@ -18,11 +18,11 @@ use mmc_story::{HasStory, StoryHost};
 /// A host of C's, with a diary that begins with a call.
 pub type CHost<S> = StoryHost<CWay, S>;
 
-/// What C gives by this number: 0 a host, anything else registers.
-pub fn given_of(way: u8) -> Given<CRegisters>
-    ensures { IsGiven way result }
+/// What C gives over the stream with this number: by way 0 a host, by any other registers.
+pub fn given_of(number: i32, way: u8) -> Given<CRegisters>
+    ensures { IsGiven number way result }
 {
-    let stream = Stream::new(0);
+    let stream = Stream::new(number);
     match way {
         0 => Given::Host(stream),
         _ => Given::Registers(CRegisters { stream }),
@@ -35,6 +35,7 @@ pub fn given_of(way: u8) -> Given<CRegisters>
 /// # Errors
 /// The number of what is wrong.
 pub fn go_back<S: HasStory>(
+    stream: i32,
     way: u8,
     card: &CardRecord,
     part: u8,
@@ -60,7 +61,7 @@ pub fn go_back<S: HasStory>(
         width: info.width,
         timing: info.timing,
     };
-    match Way::resume(given_of(way), lines) {
+    match Way::resume(given_of(stream, way), lines) {
         Ok(host) => Ok((stands, StoryHost::resume(host, lines), part)),
         Err(fault) => Err(start_number(fault)),
     }

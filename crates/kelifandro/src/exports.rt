@@ -1,5 +1,5 @@
-// What C calls. Nothing is required of the numbers and bytes that it passes; what it passes pointers to has to be there. Each is one
-// call of `opening` or `requests`, whose promises of the card hold for every story: `Brand` picks none. What C can see of it stands here
+// What C calls, over a stream of its own choice: calls over different streams may be made at the same time. Nothing is required of the
+// numbers and bytes that it passes; what it passes pointers to has to be there. Each is one call of `opening` or `requests`, whose promises of the card hold for every story: `Brand` picks none. What C can see of it stands here
 // again.
 ghost use Rattle.std.specs.Prelude.{◌≡◌, IsSome, None, false, length, pos};
 ghost use Rattle.mmc_direct.specs.Refusal.{refusal};
@@ -20,16 +20,22 @@ use std::marker::Brand;
 
 /// Opens a card.
 #[unsafe(no_mangle)]
-pub extern "C" fn kelifandro_open_by(way: u8, card: &mut CardRecord, healed: &mut Healed) -> i32
+pub extern "C" fn kelifandro_open_by(
+    stream: i32,
+    way: u8,
+    card: &mut CardRecord,
+    healed: &mut Healed,
+) -> i32
     ensures healed { healed.new ≡ none_met }
     ensures not_open { (result ≡ pos 0 → ⊥) → card.new.state ≡ 0 }
 {
-    open_by::<Brand>(way, card, healed).0
+    open_by::<Brand>(stream, way, card, healed).0
 }
 
 /// Reads sectors.
 #[unsafe(no_mangle)]
 pub extern "C" fn kelifandro_read_by(
+    stream: i32,
     way: u8,
     card: &mut CardRecord,
     healed: &mut Healed,
@@ -44,12 +50,13 @@ pub extern "C" fn kelifandro_read_by(
     ensures uncounted { is_attempted result ≡ false → healed.new ≡ healed.old }
     ensures counted { IfNoted card.old part (λ stands part. TellsCounts stands healed.old result card.new healed.new) }
 {
-    told(read_by::<Brand>(way, card, healed, part, start, blocks))
+    told(read_by::<Brand>(stream, way, card, healed, part, start, blocks))
 }
 
 /// Writes sectors.
 #[unsafe(no_mangle)]
 pub extern "C" fn kelifandro_write_by(
+    stream: i32,
     way: u8,
     card: &mut CardRecord,
     healed: &mut Healed,
@@ -64,12 +71,13 @@ pub extern "C" fn kelifandro_write_by(
     ensures uncounted { is_attempted result ≡ false → healed.new ≡ healed.old }
     ensures counted { IfNoted card.old part (λ stands part. TellsCounts stands healed.old result card.new healed.new) }
 {
-    told(write_by::<Brand>(way, card, healed, part, start, blocks))
+    told(write_by::<Brand>(stream, way, card, healed, part, start, blocks))
 }
 
 /// Erases sectors.
 #[unsafe(no_mangle)]
 pub extern "C" fn kelifandro_erase_by(
+    stream: i32,
     way: u8,
     card: &mut CardRecord,
     healed: &mut Healed,
@@ -84,12 +92,13 @@ pub extern "C" fn kelifandro_erase_by(
     ensures uncounted { is_attempted result ≡ false → healed.new ≡ healed.old }
     ensures counted { IfNoted card.old part (λ stands part. TellsCounts stands healed.old result card.new healed.new) }
 {
-    told(erase_by::<Brand>(way, card, healed, part, start, count, How::Erase))
+    told(erase_by::<Brand>(stream, way, card, healed, part, start, count, How::Erase))
 }
 
 /// Trims sectors.
 #[unsafe(no_mangle)]
 pub extern "C" fn kelifandro_trim_by(
+    stream: i32,
     way: u8,
     card: &mut CardRecord,
     healed: &mut Healed,
@@ -104,5 +113,5 @@ pub extern "C" fn kelifandro_trim_by(
     ensures uncounted { is_attempted result ≡ false → healed.new ≡ healed.old }
     ensures counted { IfNoted card.old part (λ stands part. TellsCounts stands healed.old result card.new healed.new) }
 {
-    told(erase_by::<Brand>(way, card, healed, part, start, count, How::Trim))
+    told(erase_by::<Brand>(stream, way, card, healed, part, start, count, How::Trim))
 }

@@ -17,6 +17,7 @@ use mmc_story::{HasStory, StoryHost};
 
 /// Opens a card.
 pub fn open_by<S: HasStory>(
+    stream: i32,
     way: u8,
     card: &mut CardRecord,
     healed: &mut Healed,
@@ -32,7 +33,7 @@ pub fn open_by<S: HasStory>(
 {
     card.state = 0;
     *healed = Healed::new();
-    match Way::begin(given_of(way)) {
+    match Way::begin(given_of(stream, way)) {
         Ok(host) => {
             let mut bus = HostBus::new(StoryHost::new(host));
             match open(&mut bus, card, healed) {

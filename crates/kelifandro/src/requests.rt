@@ -53,6 +53,7 @@ pub fn told<H: Host + Drop>(called: Result<Called<H>, i32>) -> i32
 /// # Errors
 /// The number of why it came to no host.
 pub fn read_by<S: HasStory>(
+    stream: i32,
     way: u8,
     card: &mut CardRecord,
     healed: &mut Healed,
@@ -79,7 +80,7 @@ pub fn read_by<S: HasStory>(
         IsServed (HasRead part start blocks.new) stands (host_of S.story stands did.limits)
         did.answer card.new (⟦<HostBus<CHost<S>> as Bus>⟧.view bus)))) }
 {
-    let (stands, host, part) = go_back(way, card, part)?;
+    let (stands, host, part) = go_back(stream, way, card, part)?;
     let limits = host.limits();
     let (answer, left) = read_over(
         host,
@@ -102,6 +103,7 @@ pub fn read_by<S: HasStory>(
 /// # Errors
 /// The number of why it came to no host.
 pub fn write_by<S: HasStory>(
+    stream: i32,
     way: u8,
     card: &mut CardRecord,
     healed: &mut Healed,
@@ -127,7 +129,7 @@ pub fn write_by<S: HasStory>(
         IsServed (HasChanged (written_at part start blocks.now)) stands (host_of S.story stands did.limits)
         did.answer card.new (⟦<HostBus<CHost<S>> as Bus>⟧.view bus)))) }
 {
-    let (stands, host, part) = go_back(way, card, part)?;
+    let (stands, host, part) = go_back(stream, way, card, part)?;
     let limits = host.limits();
     let (answer, left) = write_over(host, card, healed, stands, part, start, &Sectors { blocks });
     Ok(Called {
@@ -142,6 +144,7 @@ pub fn write_by<S: HasStory>(
 /// # Errors
 /// The number of why it came to no host.
 pub fn erase_by<S: HasStory>(
+    stream: i32,
     way: u8,
     card: &mut CardRecord,
     healed: &mut Healed,
@@ -168,7 +171,7 @@ pub fn erase_by<S: HasStory>(
         IsServed (HasChanged (erased_at (info_of stands) part start count)) stands (host_of S.story stands did.limits)
         did.answer card.new (⟦<HostBus<CHost<S>> as Bus>⟧.view bus)))) }
 {
-    let (stands, host, part) = go_back(way, card, part)?;
+    let (stands, host, part) = go_back(stream, way, card, part)?;
     let limits = host.limits();
     let (answer, left) = erase_over(host, card, healed, stands, part, start, count, how);
     Ok(Called {
