@@ -128,54 +128,33 @@ tells_counts answer stands old (Ok did) number note new told other none counts =
   served_only (answer did) (IsCounted stands old (answer did) note new) (ap (λ (n : ℤ). is_attempted n) (sym told) ∙ made) counts,
 )
 
--- what holds of how the card stands and of the partition that is meant holds of what was noted
-pub as_noted : (note : CardRecord) (number : ℕ) (stands : Stands) (part : Part) → IsAsNoted stands note
-    → part_of number ≡ Some part → (Holds : Stands → Part → Type 0) → Holds stands part → IfNoted note number Holds
-as_noted note number stands part noted meant Holds holds other meant_too is says =
-    let same : part ≡ meant_too = cc in
-    subst (λ (s : Stands). Holds s meant_too) (noted other is) (subst (λ (p : Part). Holds stands p) same holds)
+-- what holds of how the card stands holds of what was noted
+pub as_noted : (note : CardRecord) (stands : Stands) → IsAsNoted stands note → (Holds : Stands → Type 0) → Holds stands
+    → IfNoted note Holds
+as_noted note stands noted Holds holds other is = subst Holds (noted other is) holds
 
 -- what holds of the host that a call goes on with holds of the story's, where the card was noted
-pub holds_as_noted : (story : Story) (note : CardRecord) (number : ℕ) (stands : Stands) (part : Part) (past : List Entry)
-    (state : HostState) (own limits : Lines) → IsAsNoted stands note → part_of number ≡ Some part → past ≡ []
-    → state ≡ resting (lines_in stands)
+pub holds_as_noted : (story : Story) (note : CardRecord) (stands : Stands) (past : List Entry) (state : HostState) (own limits : Lines)
+    → IsAsNoted stands note → past ≡ [] → state ≡ resting (lines_in stands)
     → ((host_with (story.outcome past) state own).is_kept ≡ true → limits ≡ own)
-    → (Holds : Stands → Part → HostView → Type 0) → Holds stands part (host_with (story.outcome past) state own)
-    → IsTrueOf story [] → IfNoted note number (λ s p. Holds s p (host_of story s limits))
-holds_as_noted story note number stands part past state own limits noted meant none rests within Holds holds so how other is says =
-    let same : part ≡ other = cc in
+    → (Holds : Stands → HostView → Type 0) → Holds stands (host_with (story.outcome past) state own)
+    → IsTrueOf story [] → IfNoted note (λ s. Holds s (host_of story s limits))
+holds_as_noted story note stands past state own limits noted none rests within Holds holds so how is =
     let able : own ≡ limits = sym (within (ap (λ (p : List Entry). (story.outcome p).conformed) none ∙ so)) in
     let goes : host_with (story.outcome past) state own ≡ host_of story stands limits =
     ap (λ (p : List Entry). host_with (story.outcome p) state own) none
     ∙ ap (λ (s : HostState). host_with (story.outcome []) s own) rests
     ∙ ap (λ (l : Lines). host_with (story.outcome []) (resting (lines_in stands)) l) able in
-    subst (λ (s : Stands). Holds s other (host_of story s limits)) (noted how is)
-    (subst (λ (p : Part). Holds stands p (host_of story stands limits)) same
-    (subst (λ (h : HostView). Holds stands part h) goes holds))
+    subst (λ (s : Stands). Holds s (host_of story s limits)) (noted how is) (subst (λ (h : HostView). Holds stands h) goes holds)
 
--- of a request that is refused the record notes the card as it was noted
-pub noted_again : (P : Type 0) (note new : CardRecord) (number : ℕ) (stands : Stands) (answer : Result Unit NotDone)
-    → IsAsNoted stands note → IfRefused answer (P × Notes stands new)
-    → IfNoted note number (λ s p. IfRefused answer (Notes s new))
-noted_again P note new number stands (Ok done) noted holds how part is says = tt
-noted_again P note new number stands (Err (RefusedFor why)) noted holds how part is says =
-    subst (λ (s : Stands). Notes s new) (noted how is) holds.1
-noted_again P note new number stands (Err (Failed cause)) noted holds how part is says = tt
+-- of a request that is refused nothing has changed, and the record notes the card as it was noted
+pub unchanged_by : (P Q R : Type 0) (answer : Result Unit NotDone) → IfRefused answer (P × Q × R) → IfRefused answer Q
+unchanged_by P Q R (Ok done) holds = tt
+unchanged_by P Q R (Err (RefusedFor why)) holds = holds.1
+unchanged_by P Q R (Err (Failed cause)) holds = tt
 
--- the same of a read, whose memory is as it was
-pub unread_again : (P : Type 0) (note new : CardRecord) (number : ℕ) (stands : Stands) (answer : Result Unit NotDone)
-    (given left : SectorsMut) → IsAsNoted stands note → IfRefused answer (P × (left ≡ given) × Notes stands new)
-    → IfNoted note number (λ s p. IfRefused answer ((left.blocks.now ≡ given.blocks.now) × Notes s new))
-unread_again P note new number stands (Ok done) given left noted holds how part is says = tt
-unread_again P note new number stands (Err (RefusedFor why)) given left noted holds how part is says =
-    (ap (λ (lent : SectorsMut). lent.blocks.now) holds.1, subst (λ (s : Stands). Notes s new) (noted how is) holds.2)
-unread_again P note new number stands (Err (Failed cause)) given left noted holds how part is says = tt
-
--- sectors that were lent are the same memory
-pub same_memory : (given left : SectorsMut)
-    → IsRewritten (λ (lent : SectorsMut). lent.blocks.now)
-    (λ (lent : SectorsMut) (i : ℕ) (bytes : List ℕ).
-    record lent { blocks = record lent.blocks { now = slice_set lent.blocks.now i bytes } }) given left
-    → left.blocks.ghost_name ≡ given.blocks.ghost_name
-same_memory given left nothing = refl
-same_memory given left (block now i bytes before inside long) = same_memory given now before
+pub noted_again : (P Q : Type 0) (note new : CardRecord) (stands : Stands) (answer : Result Unit NotDone)
+    → IsAsNoted stands note → IfRefused answer (P × Q × Notes stands new) → IfNoted note (λ s. IfRefused answer (Notes s new))
+noted_again P Q note new stands (Ok done) noted holds how is = tt
+noted_again P Q note new stands (Err (RefusedFor why)) noted holds how is = subst (λ (s : Stands). Notes s new) (noted how is) holds.2
+noted_again P Q note new stands (Err (Failed cause)) noted holds how is = tt

@@ -32,10 +32,13 @@ abbrev pub IsGiven : ℤ → ℕ → Given CRegisters → Type 0
 IsGiven number way (Host stream) = (way ≡ 0) × IsNew number stream
 IsGiven number way (Registers registers) = (way ≡ 0 → ⊥) × IsNew number registers.stream
 
--- where a card is noted, and there is a partition of this number, this holds of how it stands and of the partition
-abbrev pub IfNoted : CardRecord → ℕ → (Stands → Part → Type 0) → Type 0
-IfNoted note number Holds =
-    (stands : Stands) (part : Part) → IsNoteOf stands note → part_of number ≡ Some part → Holds stands part
+-- where a card is noted, this holds of how it stands
+abbrev pub IfNoted : CardRecord → (Stands → Type 0) → Type 0
+IfNoted note Holds = (stands : Stands) → IsNoteOf stands note → Holds stands
+
+-- where there is a partition of this number, this holds of it
+abbrev pub IfMeant : ℕ → (Part → Type 0) → Type 0
+IfMeant number Holds = (part : Part) → part_of number ≡ Some part → Holds part
 
 -- the host that a call goes on with: the card of the story, between two commands, on the lines that are noted
 abbrev pub host_of : Story → Stands → Lines → HostView

@@ -1,18 +1,17 @@
 // What a call of C begins with: the way to the card, and how a card of which a record was kept stands.
-ghost use Rattle.std.specs.Prelude.{◌≡◌, [], Err, IfErr, IfOk, IsOk, IsSome, None, Some, false, pos};
-ghost use Rattle.mmc_record.specs.Numbers.{part_of};
+ghost use Rattle.std.specs.Prelude.{◌≡◌, [], Err, IfErr, IfOk, IsOk, false, pos};
 ghost use Rattle.mmc_record.specs.Note.{is_note};
 ghost use Rattle.mmc_host.specs.HostStates.{resting};
 ghost use Rattle.mmc_calls.specs.Noted.{lines_in};
 ghost use Rattle.kelifandro.specs.Answers.{minus};
 ghost use Rattle.kelifandro.specs.Calls.{IfNoted, IsAsNoted, IsGiven, is_attempted};
 
-use crate::answers::{NO_PARTITION, NOT_OPEN, start_number};
+use crate::answers::{NOT_OPEN, start_number};
 use c_host::{CRegisters, CWay, Given, Stream, Way};
-use mmc_bus::{Lines, Part};
+use mmc_bus::Lines;
 use mmc_calls::stands_by;
 use mmc_direct::Stands;
-use mmc_record::{CardRecord, part_of};
+use mmc_record::CardRecord;
 use mmc_story::{HasStory, StoryHost};
 
 /// A host of C's, with a diary that begins with a call.
@@ -29,8 +28,7 @@ pub fn given_of(number: i32, way: u8) -> Given<CRegisters>
     }
 }
 
-/// How the card of a record stands, the host that it is behind, and the partition that is meant. The host has a diary that begins
-/// with this call.
+/// How the card of a record stands, and the host that it is behind. The host has a diary that begins with this call.
 ///
 /// # Errors
 /// The number of what is wrong.
@@ -38,21 +36,15 @@ pub fn go_back<S: HasStory>(
     stream: i32,
     way: u8,
     card: &CardRecord,
-    part: u8,
-) -> Result<(Stands, CHost<S>, Part), i32>
+) -> Result<(Stands, CHost<S>), i32>
     ensures stands { IfOk result (λ r. IsAsNoted r.0 card.now) }
     ensures past { IfOk result (λ r. r.1.diary.past ≡ []) }
     ensures state { IfOk result (λ r. r.1.told.state ≡ resting (lines_in r.0)) }
-    ensures part { IfOk result (λ r. part_of part ≡ Some r.2) }
-    ensures no_partition { part_of part ≡ None → result ≡ Err (minus 2) }
-    ensures not_open { IsSome (part_of part) → is_note card.now ≡ false → result ≡ Err (minus 1) }
+    ensures not_open { is_note card.now ≡ false → result ≡ Err (minus 1) }
     ensures fault { IfErr result (λ number. number ≡ pos 0 → ⊥) }
     ensures unmade { IfErr result (λ number. is_attempted number ≡ false) }
-    ensures functions { way ≡ 0 → IfNoted card.now part (λ stands part. IsOk result) }
+    ensures functions { way ≡ 0 → IfNoted card.now (λ stands. IsOk result) }
 {
-    let Some(part) = part_of(part) else {
-        return Err(NO_PARTITION);
-    };
     let Some(stands) = stands_by(card) else {
         return Err(NOT_OPEN);
     };
@@ -62,7 +54,7 @@ pub fn go_back<S: HasStory>(
         timing: info.timing,
     };
     match Way::resume(given_of(stream, way), lines) {
-        Ok(host) => Ok((stands, StoryHost::resume(host, lines), part)),
+        Ok(host) => Ok((stands, StoryHost::resume(host, lines))),
         Err(fault) => Err(start_number(fault)),
     }
 }

@@ -9,12 +9,14 @@ ghost use Rattle.mmc_recovery.specs.Healed.{none_met};
 ghost use Rattle.mmc_record.specs.Note.{is_note};
 ghost use Rattle.mmc_record.specs.Numbers.{part_of};
 ghost use Rattle.kelifandro.specs.Answers.{minus};
-ghost use Rattle.kelifandro.specs.Calls.{IfNoted, TellsCounts, TellsWhy, is_attempted};
+ghost use Rattle.kelifandro.specs.Calls.{IfMeant, IfNoted, TellsCounts, TellsWhy, is_attempted};
 
+use crate::answers::NO_PARTITION;
 use crate::opening::open_by;
-use crate::requests::{erase_by, read_by, told, write_by};
-use mmc_direct::How;
-use mmc_record::CardRecord;
+use crate::requests::{serve_by, told};
+use c_host::{Sectors, SectorsMut};
+use mmc_direct::{Erasing, How, Reading, Writing};
+use mmc_record::{CardRecord, part_of};
 use mmc_recovery::Healed;
 use std::marker::Brand;
 
@@ -45,12 +47,22 @@ pub extern "C" fn kelifandro_read_by(
 ) -> i32
     ensures no_partition { part_of part ≡ None → result ≡ minus 2 }
     ensures not_open { IsSome (part_of part) → is_note card.old ≡ false → result ≡ minus 1 }
-    ensures judged { IfNoted card.old part (λ stands part.
-        TellsWhy way (refusal Read (info_of stands) part start (length blocks.old)) result) }
+    ensures judged { IfNoted card.old (λ stands. IfMeant part (λ part.
+        TellsWhy way (refusal Read (info_of stands) part start (length blocks.old)) result)) }
     ensures uncounted { is_attempted result ≡ false → healed.new ≡ healed.old }
-    ensures counted { IfNoted card.old part (λ stands part. TellsCounts stands healed.old result card.new healed.new) }
+    ensures counted { IfNoted card.old (λ stands. TellsCounts stands healed.old result card.new healed.new) }
+    ensures unread { is_attempted result ≡ false → blocks.new ≡ blocks.old }
 {
-    told(read_by::<Brand>(stream, way, card, healed, part, start, blocks))
+    let Some(part) = part_of(part) else {
+        return NO_PARTITION;
+    };
+    let mut lent = SectorsMut { blocks };
+    let mut request = Reading {
+        part,
+        start,
+        blocks: &mut lent,
+    };
+    told(serve_by::<Brand, _>(stream, way, card, healed, &mut request))
 }
 
 /// Writes sectors.
@@ -66,12 +78,21 @@ pub extern "C" fn kelifandro_write_by(
 ) -> i32
     ensures no_partition { part_of part ≡ None → result ≡ minus 2 }
     ensures not_open { IsSome (part_of part) → is_note card.old ≡ false → result ≡ minus 1 }
-    ensures judged { IfNoted card.old part (λ stands part.
-        TellsWhy way (refusal Write (info_of stands) part start (length blocks.now)) result) }
+    ensures judged { IfNoted card.old (λ stands. IfMeant part (λ part.
+        TellsWhy way (refusal Write (info_of stands) part start (length blocks.now)) result)) }
     ensures uncounted { is_attempted result ≡ false → healed.new ≡ healed.old }
-    ensures counted { IfNoted card.old part (λ stands part. TellsCounts stands healed.old result card.new healed.new) }
+    ensures counted { IfNoted card.old (λ stands. TellsCounts stands healed.old result card.new healed.new) }
 {
-    told(write_by::<Brand>(stream, way, card, healed, part, start, blocks))
+    let Some(part) = part_of(part) else {
+        return NO_PARTITION;
+    };
+    let lent = Sectors { blocks };
+    let mut request = Writing {
+        part,
+        start,
+        blocks: &lent,
+    };
+    told(serve_by::<Brand, _>(stream, way, card, healed, &mut request))
 }
 
 /// Erases sectors.
@@ -87,12 +108,21 @@ pub extern "C" fn kelifandro_erase_by(
 ) -> i32
     ensures no_partition { part_of part ≡ None → result ≡ minus 2 }
     ensures not_open { IsSome (part_of part) → is_note card.old ≡ false → result ≡ minus 1 }
-    ensures judged { IfNoted card.old part (λ stands part.
-        TellsWhy way (refusal Erase (info_of stands) part start count) result) }
+    ensures judged { IfNoted card.old (λ stands. IfMeant part (λ part.
+        TellsWhy way (refusal Erase (info_of stands) part start count) result)) }
     ensures uncounted { is_attempted result ≡ false → healed.new ≡ healed.old }
-    ensures counted { IfNoted card.old part (λ stands part. TellsCounts stands healed.old result card.new healed.new) }
+    ensures counted { IfNoted card.old (λ stands. TellsCounts stands healed.old result card.new healed.new) }
 {
-    told(erase_by::<Brand>(stream, way, card, healed, part, start, count, How::Erase))
+    let Some(part) = part_of(part) else {
+        return NO_PARTITION;
+    };
+    let mut request = Erasing {
+        part,
+        start,
+        count,
+        how: How::Erase,
+    };
+    told(serve_by::<Brand, _>(stream, way, card, healed, &mut request))
 }
 
 /// Trims sectors.
@@ -108,10 +138,19 @@ pub extern "C" fn kelifandro_trim_by(
 ) -> i32
     ensures no_partition { part_of part ≡ None → result ≡ minus 2 }
     ensures not_open { IsSome (part_of part) → is_note card.old ≡ false → result ≡ minus 1 }
-    ensures judged { IfNoted card.old part (λ stands part.
-        TellsWhy way (refusal Trim (info_of stands) part start count) result) }
+    ensures judged { IfNoted card.old (λ stands. IfMeant part (λ part.
+        TellsWhy way (refusal Trim (info_of stands) part start count) result)) }
     ensures uncounted { is_attempted result ≡ false → healed.new ≡ healed.old }
-    ensures counted { IfNoted card.old part (λ stands part. TellsCounts stands healed.old result card.new healed.new) }
+    ensures counted { IfNoted card.old (λ stands. TellsCounts stands healed.old result card.new healed.new) }
 {
-    told(erase_by::<Brand>(stream, way, card, healed, part, start, count, How::Trim))
+    let Some(part) = part_of(part) else {
+        return NO_PARTITION;
+    };
+    let mut request = Erasing {
+        part,
+        start,
+        count,
+        how: How::Trim,
+    };
+    told(serve_by::<Brand, _>(stream, way, card, healed, &mut request))
 }

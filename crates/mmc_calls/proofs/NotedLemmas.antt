@@ -66,17 +66,11 @@ broken_noted stands broken note is says view stood =
       stands = what_is_left_stands broken view is_broken;
     }
 
-pub refused_noted : (P : Type 0) (answer : Result Unit NotDone) (left stands : Stands) (note : CardRecord)
-    → IfRefused answer (P × (left ≡ stands)) → Notes left note → IfRefused answer (P × Notes stands note)
-refused_noted P (Ok done) left stands note h n = tt
-refused_noted P (Err (RefusedFor why)) left stands note h n = (h.0, subst (λ s. Notes s note) h.1 n)
-refused_noted P (Err (Failed cause)) left stands note h n = tt
-
-pub refused_read_noted : (P Q : Type 0) (answer : Result Unit NotDone) (left stands : Stands) (note : CardRecord)
+pub refused_noted : (P Q : Type 0) (answer : Result Unit NotDone) (left stands : Stands) (note : CardRecord)
     → IfRefused answer (P × (left ≡ stands) × Q) → Notes left note → IfRefused answer (P × Q × Notes stands note)
-refused_read_noted P Q (Ok done) left stands note h n = tt
-refused_read_noted P Q (Err (RefusedFor why)) left stands note h n = (h.0, h.2, subst (λ s. Notes s note) h.1 n)
-refused_read_noted P Q (Err (Failed cause)) left stands note h n = tt
+refused_noted P Q (Ok done) left stands note h n = tt
+refused_noted P Q (Err (RefusedFor why)) left stands note h n = (h.0, h.2, subst (λ s. Notes s note) h.1 n)
+refused_noted P Q (Err (Failed cause)) left stands note h n = tt
 
 -- what was counted of a request that isn't refused
 pub counted_by : (stands : Stands) (old : Healed) (answer : Result Unit NotDone) (left : Stands) (note : CardRecord)

@@ -12,5 +12,5 @@ mod whole;
 pub use going_on::go_on;
 pub use noting::{noted, stands_by};
 pub use opening::open;
-pub use requests::{erase, read, write};
-pub use whole::{Left, erase_over, read_over, write_over};
+pub use requests::serve;
+pub use whole::{Left, serve_over};
