@@ -21,7 +21,8 @@
    A small library is made without a way to the card, a kind of card, or erasing and writing: c/build --without, docs/PORTING.md.
 
    All that it keeps is in struct kelifandro. Calls for several cards may be made at the same time, by threads, out of a function that the
-   library calls, or by an interrupt. Two calls for one card must not overlap. */
+   library calls, or by an interrupt. Two calls for one card must not overlap, and a call comes back to the library on the stack that it
+   was made on. */
 #ifndef KELIFANDRO_H
 #define KELIFANDRO_H
 #include <stddef.h>
