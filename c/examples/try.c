@@ -90,6 +90,14 @@ static void counts(unsigned long requests, int has_fallen, unsigned long lost)
     expect((failures() > 0) == has_fallen, "failures that were counted", lost);
 }
 
+/* The card is used on all lines that it has, and as fast as it can be: an SD card has four lines, and registers don't tell of one alone. */
+static void used(int is_emmc, enum way way, unsigned long lost)
+{
+    int most = lines == 1 && has_registers(way) ? 4 : lines;
+    expect(card.lines == (is_emmc || most == 1 ? most : 4), "lines", lost);
+    expect(card.high_speed == high_speed, "speed", lost);
+}
+
 /* One of everything; answers how many answers the card gave. */
 static unsigned long whole(int is_emmc, enum way way, unsigned long lost, int is_damaged)
 {
@@ -98,6 +106,7 @@ static unsigned long whole(int is_emmc, enum way way, unsigned long lost, int is
     card.lost = lost;
     card.is_damaged = is_damaged;
     expect(kelifandro_open(&sd) == KELIFANDRO_DONE, "open", lost);
+    used(is_emmc, way, lost);
     opened = card.answers;
     expect(kelifandro_sectors(&sd, KELIFANDRO_USER) == USER_SECTORS, "size", lost);
     expect(kelifandro_write(&sd, KELIFANDRO_USER, 7, RUN, data) == KELIFANDRO_DONE, "write", lost);
@@ -251,10 +260,13 @@ static void slot(void)
 static void shown(enum way way)
 {
     static const uint8_t scr[8] = {0x02, 0x05, 0x80, 0x02}, none[8];
+    static const uint8_t cid[15] = {0x01, 'K', 'F', 'K', 'E', 'L', 'I', 'F', 0x10, 0, 0, 0, 0x01, 0x01, 0x81};
+    static const uint8_t csd[15] = {0x40, 0x0e, 0, 0x32, 0x5b, 0x59, 0, 0, 0, 0x01, 0x7f, 0x80, 0x0a, 0x40, 0};
     static uint8_t ext_csd[512];
     begin(0, way);
     sd.ext_csd = ext_csd;
     expect(kelifandro_open(&sd) == KELIFANDRO_DONE && memcmp(sd.scr, scr, 8) == 0, "the SCR", way);
+    expect(memcmp(sd.card.cid, cid, 15) == 0 && memcmp(sd.card.csd, csd, 15) == 0, "CID and CSD", way);
     expect(ext_csd[192] == 0, "no EXT_CSD", way);
     card.state = 0;
     expect(kelifandro_read(&sd, KELIFANDRO_USER, 0, 1, back) == KELIFANDRO_DONE && sd.was_reset == 1, "opened anew", way);
