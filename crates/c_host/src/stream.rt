@@ -53,6 +53,7 @@ impl Stream {
     // Puts a record.
     fn tell(&mut self, put: &[u8])
         ensures past { self.new.diary.past ≡ Told put.now ∷ self.old.diary.past }
+        ensures same { self.new.number ≡ self.old.number }
     {
         let _ = io::write_all(self.number, put);
         self.diary = self.diary.then(&Note {
@@ -64,6 +65,7 @@ impl Stream {
     fn ask(&mut self, put: &[u8], answer: &mut [u8])
         ensures past { self.new.diary.past ≡ Asked put.now answer.new ∷ self.old.diary.past }
         ensures length { length answer.new ≡ length answer.old }
+        ensures same { self.new.number ≡ self.old.number }
     {
         let _ = io::write_all(self.number, put);
         let _ = io::read_full(self.number, answer);
@@ -76,6 +78,7 @@ impl Stream {
     fn take(&mut self, bytes: &mut [u8]) -> usize
         ensures past { self.new.diary.past ≡ Came result bytes.new ∷ self.old.diary.past }
         ensures length { length bytes.new ≡ length bytes.old }
+        ensures same { self.new.number ≡ self.old.number }
     {
         let count = io::read_full(self.number, bytes);
         self.diary = self.diary.then(&Note {
@@ -86,7 +89,8 @@ impl Stream {
 
     /// Sends a command, and takes its response.
     pub fn send(&mut self, command: HostCommand) -> Result<Heard, ResponseFault>
-        ensures { TellsCommand command result self.old.diary.past self.new.diary.past }
+        ensures told { TellsCommand command result self.old.diary.past self.new.diary.past }
+        ensures same { self.new.number ≡ self.old.number }
     {
         let mut answer = [0; 16];
         self.ask(&command_record(command), &mut answer);
@@ -101,6 +105,7 @@ impl Stream {
     ) -> (Result<Heard, ResponseFault>, Moved<DataIn>)
         ensures reads { ReadsWith D.blocks D.with unkept_host command blocks.old result.0 result.1 blocks.new unkept_host }
         ensures tells { TellsReadWith command (D.blocks blocks.new) result.0 result.1 self.old.diary.past self.new.diary.past }
+        ensures same { self.new.number ≡ self.old.number }
     {
         let count = blocks.len();
         let answer = self.send_with(READ_WITH, command, count);
@@ -128,6 +133,7 @@ impl Stream {
         ensures writes { WritesWith unkept_host command (D.blocks blocks.now) result.0 result.1 unkept_host }
         ensures tells { TellsWriteWith command (length (D.blocks blocks.now)) result.0 result.1 self.old.diary.past
             self.new.diary.past }
+        ensures same { self.new.number ≡ self.old.number }
     {
         let count = blocks.len();
         let answer = self.send_with(WRITE_WITH, command, count);
@@ -144,7 +150,8 @@ impl Stream {
     // Sends a command with so many blocks after it, and takes the answer: of its response, how many blocks C moved, and what became of
     // one that failed.
     fn send_with(&mut self, operation: u8, command: HostCommand, count: usize) -> [u8; 19]
-        ensures { self.new.diary.past ≡ Asked (with_record operation command count) result ∷ self.old.diary.past }
+        ensures told { self.new.diary.past ≡ Asked (with_record operation command count) result ∷ self.old.diary.past }
+        ensures same { self.new.number ≡ self.old.number }
     {
         let [_, index, response, direction, a, b, c, d, e, f, g, h] = command_record(command);
         let [i, j, ..] = count.to_le_bytes();
@@ -160,7 +167,8 @@ impl Stream {
 
     /// Reads a block: a good one comes whole, a bad one as a single byte.
     pub fn read_block(&mut self, block: &mut [u8]) -> DataIn
-        ensures { TellsRead (length block.old) result block.new self.old.diary.past self.new.diary.past }
+        ensures told { TellsRead (length block.old) result block.new self.old.diary.past self.new.diary.past }
+        ensures same { self.new.number ≡ self.old.number }
     {
         let length = block.len();
         let came = self.take(block);
@@ -175,7 +183,8 @@ impl Stream {
 
     /// Writes a block.
     pub fn write_block(&mut self, block: &[u8; 512]) -> DataOut
-        ensures { TellsWrite block.now result self.old.diary.past self.new.diary.past }
+        ensures told { TellsWrite block.now result self.old.diary.past self.new.diary.past }
+        ensures same { self.new.number ≡ self.old.number }
     {
         let mut answer = [0];
         self.ask(block, &mut answer);
@@ -188,7 +197,8 @@ impl Stream {
 
     /// Whether the card is busy after so many microseconds.
     pub fn is_busy(&mut self, micros: u32) -> bool
-        ensures { TellsLook micros result self.old.diary.past self.new.diary.past }
+        ensures told { TellsLook micros result self.old.diary.past self.new.diary.past }
+        ensures same { self.new.number ≡ self.old.number }
     {
         let [a, b, c, d] = micros.to_le_bytes();
         let mut answer = [0];
@@ -198,14 +208,16 @@ impl Stream {
 
     /// Sets lines, timing and clock.
     pub fn set_ios(&mut self, ios: Ios)
-        ensures { TellsIos ios self.old.diary.past self.new.diary.past }
+        ensures told { TellsIos ios self.old.diary.past self.new.diary.past }
+        ensures same { self.new.number ≡ self.old.number }
     {
         self.tell(&ios_record(ios));
     }
 
     /// Waits for so many microseconds.
     pub fn pause(&mut self, micros: u32)
-        ensures { TellsPause micros self.old.diary.past self.new.diary.past }
+        ensures told { TellsPause micros self.old.diary.past self.new.diary.past }
+        ensures same { self.new.number ≡ self.old.number }
     {
         let [a, b, c, d] = micros.to_le_bytes();
         self.tell(&[PAUSE, a, b, c, d]);
@@ -216,6 +228,7 @@ impl Stream {
         ensures told { let past = self.new.diary.past in
             past ≡ Asked (7 ∷ []) (last_answer past) ∷ self.old.diary.past }
         ensures limits { result ≡ lines_by (last_answer self.new.diary.past) }
+        ensures same { self.new.number ≡ self.old.number }
     {
         let mut answer = [0; 2];
         self.ask(&[LIMITS], &mut answer);
@@ -239,6 +252,7 @@ impl Stream {
         ensures told { let past = self.new.diary.past in
             past ≡ Asked (8 ∷ size ∷ offset ∷ []) (last_answer past) ∷ self.old.diary.past }
         ensures read { result ≡ from_le_bytes w32 (last_answer self.new.diary.past) }
+        ensures same { self.new.number ≡ self.old.number }
     {
         let mut answer = [0; 4];
         self.ask(&[READ_REGISTER, size, offset], &mut answer);
@@ -247,7 +261,8 @@ impl Stream {
 
     /// Writes a register of so many bytes, 1 or 4.
     pub fn write_register(&mut self, size: u8, offset: u8, value: u32)
-        ensures { self.new.diary.past ≡ Told (9 ∷ size ∷ offset ∷ to_le_bytes w32 value) ∷ self.old.diary.past }
+        ensures told { self.new.diary.past ≡ Told (9 ∷ size ∷ offset ∷ to_le_bytes w32 value) ∷ self.old.diary.past }
+        ensures same { self.new.number ≡ self.old.number }
     {
         let [a, b, c, d] = value.to_le_bytes();
         self.tell(&[WRITE_REGISTER, size, offset, a, b, c, d]);
@@ -257,6 +272,7 @@ impl Stream {
     pub fn read_port(&mut self, block: &mut [u8])
         ensures length { length block.new ≡ length block.old }
         ensures tells { TellsPort block.new self.old.diary.past self.new.diary.past }
+        ensures same { self.new.number ≡ self.old.number }
     {
         let _ = self.take(block);
     }
@@ -265,6 +281,7 @@ impl Stream {
     pub fn lend(&mut self, operation: u8, count: usize) -> Option<u64>
         ensures tells { TellsLending operation count result self.old.diary.past self.new.diary.past }
         ensures fits { Fits result count }
+        ensures same { self.new.number ≡ self.old.number }
     {
         let [a, b, ..] = count.to_le_bytes();
         let mut answer = [0; 8];
@@ -274,7 +291,8 @@ impl Stream {
 
     // Tells a line of a table, as it is: no record begins with its attributes.
     fn tell_line(&mut self, line: Line)
-        ensures { self.new.diary.past ≡ Told (bytes_of line) ∷ self.old.diary.past }
+        ensures told { self.new.diary.past ≡ Told (bytes_of line) ∷ self.old.diary.past }
+        ensures same { self.new.number ≡ self.old.number }
     {
         match line {
             Line::Narrow(bytes) => self.tell(&bytes),
@@ -286,6 +304,7 @@ impl Stream {
     pub fn lend_table(&mut self, table: &Table) -> Option<u64>
         ensures tells { TellsTable table.now result self.old.diary.past self.new.diary.past }
         ensures fits { FitsTable table.now.is_wide result }
+        ensures same { self.new.number ≡ self.old.number }
     {
         for i in 0..table.len() {
             self.tell_line(table.line(i));
@@ -299,6 +318,7 @@ impl Stream {
     pub fn take_places(&mut self, index: usize, blocks: &mut [u8])
         ensures tells { TellsTaking index blocks.new self.old.diary.past self.new.diary.past }
         ensures length { length blocks.new ≡ length blocks.old }
+        ensures same { self.new.number ≡ self.old.number }
     {
         if index == 0 {
             self.tell(&[TAKE_PLACES]);
@@ -308,14 +328,16 @@ impl Stream {
 
     /// Takes back what was lent.
     pub fn take_back(&mut self)
-        ensures { self.new.diary.past ≡ Told (17 ∷ []) ∷ self.old.diary.past }
+        ensures told { self.new.diary.past ≡ Told (17 ∷ []) ∷ self.old.diary.past }
+        ensures same { self.new.number ≡ self.old.number }
     {
         self.tell(&[TAKE_BACK]);
     }
 
     /// Writes a block to the Buffer Data Port.
     pub fn write_port(&mut self, block: &[u8; 512])
-        ensures { self.new.diary.past ≡ Told block.now ∷ self.old.diary.past }
+        ensures told { self.new.diary.past ≡ Told block.now ∷ self.old.diary.past }
+        ensures same { self.new.number ≡ self.old.number }
     {
         self.tell(block);
     }

@@ -3,4 +3,5 @@ use Rattle.c_host.specs.Told.{with_lines}
 use Rattle.c_host.proofs.stream.Stream.lend_table.Given as goal
 
 abbrev pub invariant-loop-i : goal.invariant-loop-i
-invariant-loop-i l = l.self.diary.past ≡ with_lines l.fn.table l.i l.initial.self.diary.past
+invariant-loop-i l =
+    (l.self.diary.past ≡ with_lines l.fn.table l.i l.initial.self.diary.past) × (l.self.number ≡ l.fn.self.number)

@@ -17,6 +17,7 @@ loop-done-init g c = record {
   good = none_good;
   many = sym c.len-count.ensures;
   taken = none_taken;
+  same = c.send_with-answer.ensures.same;
 }
 
 pub blocks_mut-piece-requires : goal.blocks_mut-piece-requires
@@ -59,6 +60,7 @@ loop-done-preserved g c =
       many = rw all good.1;
       taken = rw (all, size, c.take.ensures.past) (more_taken places leave one was now first together count left many inside long
           c.send_with-answer.new.self.diary.past c.loop-done.self.diary.past c.take.result so_far.taken);
+      same = c.take.ensures.same ∙ so_far.same;
     }
 
 pub returns-clause-reads : goal.returns-clause-reads
@@ -89,7 +91,7 @@ returns-clause-tells g c =
     let new = c.loop-done.self.diary.past in (
       c.send_with-answer.result,
       rw same (subst (λ old. AreTaken places old (touched_by c.moved_by-moved.result c.len-count.result) new)
-          c.send_with-answer.ensures
+          c.send_with-answer.ensures.told
           (subst (λ n. AreTaken places c.send_with-answer.new.self.diary.past n new) end c.loop-done.invariant.taken)),
       c.heard_by-heard.ensures,
       rw same (c.moved_by-moved.ensures ∙ rw c.failed_by.ensures (rw c.good_by.ensures refl)),

@@ -13,6 +13,7 @@ invariant-loop-done g l =
       good : AreGood HostRead g.D.Blocks.blocks g.D.BlocksMut.with unkept_host l.initial.blocks l.done unkept_host l.blocks;
       many : length places ≡ l.count;
       taken : AreTaken places l.initial.self.diary.past l.done l.self.diary.past;
+      same : l.self.number ≡ l.fn.self.number;
     }
 
 abbrev pub decreases-loop-done : goal.decreases-loop-done
