@@ -27,36 +27,36 @@ IS_SO(by_recovery, offsetof(struct kelifandro_healed, by_recovery) == 40);
 IS_SO(resets, offsetof(struct kelifandro_healed, resets) == 56);
 IS_SO(healed, sizeof(struct kelifandro_healed) == 64);
 IS_SO(part, sizeof(enum kelifandro_part) == 4);
+IS_SO(way, sizeof(struct kelifandro_way) == 12);
 #if defined __BYTE_ORDER__ && __BYTE_ORDER__ != __ORDER_LITTLE_ENDIAN__
 #error "struct kelifandro_card has the lowest byte of a number first: this processor has the highest first"
 #endif
 
 /* The records (crates/c_host/src/records.rt), by their first bytes. A block has no record: it is put, and its status got, or it is got. */
 enum {
-    NOTHING,
-    SEND,
+    SEND = 1,
     LOOK = 4,
     SET_IOS,
     PAUSE,
-    LIMITS,
-    READ_REGISTER,
+    READ_REGISTER = 8,
     WRITE_REGISTER,
     READ_WITH,
     WRITE_WITH,
-    LEND_ROOM = 14,
-    LEND_BLOCKS,
-    TAKE_PLACES,
-    TAKE_BACK,
+    LEND = 14,
+    TAKE_BACK = 17,
     LEND_TABLE,
     /* a line of a table begins with its attributes: one of several, and the last */
     LINE = 0x21,
-    LAST_LINE = 0x23,
-    /* no records: a block was put, or was got as a bad one */
-    WROTE_BLOCK,
-    GOT_BAD
+    LAST_LINE = 0x23
 };
 
+/* What is got next: a block, what came of a record, or no more of a bad block. */
+enum { NOTHING, ANSWER, END };
+
 enum { BLOCK = 512 };
+
+/* Registers of a controller (SD Host Controller 3.00, section 2.2) that are looked at. */
+enum { COMMAND = 0x0c, RESPONSE = 0x10, PORT = 0x20, PRESENT_STATE = 0x24 };
 
 /* A small library is built without what these name (c/build --without), here and in kelifandro_core.c: nothing may lead there. */
 #if defined KELIFANDRO_WITHOUT_WRITE && !defined KELIFANDRO_WITHOUT_ERASE
@@ -128,6 +128,38 @@ static int is_by_host(const struct kelifandro *kelifandro)
 #endif
 }
 
+enum { MOST = 65535 };
+
+/* More blocks than a request may name are one more: it is refused before any is touched. */
+static uint32_t at_most(uint64_t count)
+{
+    return count > MOST ? MOST + 1 : (uint32_t)count;
+}
+
+/* The way to the card, as the proved library is told of it. */
+APART static struct kelifandro_way way_of(const struct kelifandro *kelifandro)
+{
+    struct kelifandro_way way = {0, 0, 0, 0, 0, 0, 0, 0};
+#ifndef KELIFANDRO_WITHOUT_HOST
+    if (is_by_host(kelifandro)) {
+        way.lines = kelifandro->host->lines;
+        way.high_speed = kelifandro->host->high_speed;
+    }
+#endif
+#ifndef KELIFANDRO_WITHOUT_REGISTERS
+    if (!is_by_host(kelifandro)) {
+        const struct kelifandro_registers *registers = kelifandro->registers;
+        way.by = 1;
+        way.is_there = registers->is_there;
+        way.is_by_words = registers->is_by_words;
+        way.capabilities = registers->capabilities;
+        way.lends = registers->lend != 0;
+        way.table_size = (uint16_t)(registers->table_size < MOST ? registers->table_size : MOST);
+    }
+#endif
+    return way;
+}
+
 /* A card of a kind that isn't served is never ready: the response to the command that asks whether it is, CMD1 or ACMD41, reads as 0 (SD
    Physical Layer 6.00, section 4.2.3; JESD84-B51, section 6.4.2). */
 static int is_unserved_question(uint8_t index)
@@ -163,299 +195,228 @@ static uint32_t word_at(const uint8_t *bytes)
     return half_at(bytes) | (uint32_t)half_at(bytes + 2) << 16;
 }
 
-static void answer_half(uint8_t *bytes, uint32_t half)
+static void put_word(uint8_t *bytes, uint32_t word)
 {
-    bytes[0] = (uint8_t)half;
-    bytes[1] = (uint8_t)(half >> 8);
+    bytes[0] = (uint8_t)word;
+    bytes[1] = (uint8_t)(word >> 8);
+    bytes[2] = (uint8_t)(word >> 16);
+    bytes[3] = (uint8_t)(word >> 24);
 }
 
-static void answer_word(uint8_t *bytes, uint32_t word)
+/* Gives so many bytes of these words. */
+APART static void give(uint8_t *bytes, const uint32_t *words, size_t n)
 {
-    answer_half(bytes, word);
-    answer_half(bytes + 2, word >> 16);
+    for (; n >= 4; n -= 4, bytes += 4)
+        put_word(bytes, *words++);
+    for (size_t i = 0; i < n; i++)
+        bytes[i] = (uint8_t)(*words >> 8 * i);
+}
+
+static void copy(uint8_t *to, const uint8_t *from, size_t n)
+{
+    for (size_t i = 0; i < n; i++)
+        to[i] = from[i];
+}
+
+/* What comes of a record is kept until it is got, at once. */
+static void answer(struct kelifandro_call *call, uint64_t number)
+{
+    call->answer[0] = (uint32_t)number;
+    call->answer[1] = (uint32_t)(number >> 32);
+    call->next = ANSWER;
 }
 
 #ifndef KELIFANDRO_WITHOUT_HOST
-/* The highest byte first. */
-static void answer_highest_first(uint8_t *bytes, uint32_t word)
-{
-    bytes[0] = (uint8_t)(word >> 24);
-    bytes[1] = (uint8_t)(word >> 16);
-    bytes[2] = (uint8_t)(word >> 8);
-    bytes[3] = (uint8_t)word;
-}
-
 /* Sends a command, by transfer where there is nothing else: a register that comes as a block is kept until it is asked for. */
-static int send_alone(struct kelifandro_call *call, const struct kelifandro_host *host, uint32_t response[4])
+static int send_alone(struct kelifandro_call *call, const struct kelifandro_host *host, const struct kelifandro_command *command,
+                      uint32_t response[4])
 {
     struct kelifandro_moved moved = {0, 0};
     int fault;
     if (host->send)
-        return host->send(host->context, &call->command, response);
-    fault = host->transfer(host->context, &call->command, response, call->block, call->command.data == KELIFANDRO_READ, &moved);
-    call->answer = moved.failed ? moved.failed : moved.good ? 0 : 2;
+        return host->send(host->context, command, response);
+    fault = host->transfer(host->context, command, response, call->block, command->data == KELIFANDRO_READ, &moved);
+    call->kept = moved.failed ? moved.failed : moved.good ? 0 : 2;
     return fault;
 }
 
 static int read_alone(struct kelifandro_call *call, const struct kelifandro_host *host, uint8_t *bytes, size_t n)
 {
-    int answer = call->answer;
+    int kept = call->kept;
     if (host->read_block)
         return host->read_block(host->context, bytes, n);
-    for (size_t i = 0; i < n && i < sizeof call->block; i++)
-        bytes[i] = call->block[i];
-    call->answer = 2;
-    return answer;
+    copy(bytes, call->block, n);
+    call->kept = 2;
+    return kept;
 }
 
-/* Why no response was heard: what isn't named by `enum kelifandro_fault` is as a timeout. */
-static uint8_t fault_number(int fault)
+/* A command, and so many of the request's blocks that may be moved with it. */
+APART static void send_command(struct kelifandro_call *call, const struct kelifandro_host *host, const uint8_t *record)
 {
-    if (fault == 0)
-        return 0;
-    return fault > KELIFANDRO_TIMEOUT && fault <= KELIFANDRO_OTHER_INDEX ? (uint8_t)fault : KELIFANDRO_TIMEOUT;
-}
-
-/* The command of a record, and how many of the request's blocks may be moved with it. */
-static void take_command(struct kelifandro_call *call, const uint8_t *record)
-{
-    struct kelifandro_command *command = &call->command;
-    command->index = record[1];
-    command->response = record[2];
-    command->data = record[3];
-    command->argument = word_at(record + 4);
-    command->block_length = half_at(record + 8);
-    command->blocks = half_at(record + 10);
-    if (record[0] != SEND)
-        call->behind = half_at(record + 12);
-}
-
-/* Sends it. Its answer has 16 bytes, and three more where blocks may be moved with it. */
-static void answer_command(struct kelifandro_call *call, const struct kelifandro_host *host, int is_with, uint8_t *bytes)
-{
+    struct kelifandro_command command = {record[1], record[2], record[3], word_at(record + 4), half_at(record + 8), half_at(record + 10)};
+    uint16_t behind = record[0] == SEND ? 0 : half_at(record + 12);
     struct kelifandro_moved moved = {0, 0};
     uint32_t response[4] = {0, 0, 0, 0};
-    int is_long = call->command.response == KELIFANDRO_R2;
-    int fault = is_with && host->transfer
-                    ? host->transfer(host->context, &call->command, response, call->memory, call->behind, &moved)
-                    : send_alone(call, host, response);
-    if (is_unserved_question(call->command.index))
+    int fault = record[0] != SEND && host->transfer
+                    ? host->transfer(host->context, &command, response, call->memory, behind, &moved)
+                    : send_alone(call, host, &command, response);
+    if (is_unserved_question(command.index))
         response[0] = 0;
-    if (is_long) {
-        answer_highest_first(bytes, response[0]);
-    } else {
-        answer_word(bytes, response[0]);
-        response[1] = response[2] = response[3] = 0;
-    }
-    answer_highest_first(bytes + 4, response[1]);
-    answer_highest_first(bytes + 8, response[2]);
-    answer_highest_first(bytes + 12, response[3]);
-    bytes[15] = fault_number(fault);
-    if (!is_with)
-        return;
-    if (call->command.data == KELIFANDRO_READ)
-        call->came = moved.failed || moved.good > call->behind ? call->behind : moved.good;
-    answer_half(bytes + 16, moved.good);
-    bytes[18] = moved.failed;
+    for (size_t i = 0; i < 4; i++)
+        call->answer[i] = response[i];
+    call->answer[4] = moved.good | (uint32_t)moved.failed << 16 | (uint32_t)fault << 24;
+    call->answer[5] = (uint32_t)fault >> 8;
+    call->next = ANSWER;
+    if (command.data == KELIFANDRO_READ)
+        call->came = moved.failed || moved.good > behind ? behind : moved.good;
 }
 
+static void tell_host(struct kelifandro_call *call, const struct kelifandro_host *host, const uint8_t *record)
+{
+    switch (record[0]) {
+    case SEND:
+    case READ_WITH:
+    case WRITE_WITH:
+        send_command(call, host, record);
+        break;
+    case LOOK:
+        answer(call, host->is_busy(host->context, word_at(record + 1)) != 0);
+        break;
+    case SET_IOS:
+        host->set_ios(host->context, record[1], record[2], word_at(record + 3));
+        break;
+    case PAUSE:
+        host->pause(host->context, word_at(record + 1));
+        break;
+    }
+}
+
+/* Writes a block: 1 it was accepted, 2 rejected. */
+APART static void write_alone(struct kelifandro_call *call, const struct kelifandro_host *host, const uint8_t *block)
+{
+    int status = host->write_block ? host->write_block(host->context, block) : 2;
+    answer(call, status == 0 ? 1 : status == 1 ? 2 : 0);
+}
 #endif
 
 #ifndef KELIFANDRO_WITHOUT_REGISTERS
-APART static void answer_long(uint8_t *bytes, uint64_t number)
-{
-    answer_word(bytes, (uint32_t)number);
-    answer_word(bytes + 4, (uint32_t)(number >> 32));
-}
-
-/* Bits 16 to 19 of Present State: a card is inserted, that is stable, its switch says so, and that it may be written to. */
-enum { COMMAND = 0x0c, RESPONSE = 0x10, PRESENT_STATE = 0x24, CAPABILITIES = 0x40, THERE = 0xf0000 };
-
-/* A register as the board knows it: a byte may be had by its word alone, and a card that is always there has no switches. */
-static uint32_t read_of_board(const struct kelifandro_registers *registers, unsigned offset, unsigned size)
-{
-    unsigned at = size == 1 && registers->is_by_words ? offset % 4 : 0;
-    uint32_t value = registers->read(registers->context, offset - at, registers->is_by_words ? 4 : size) >> (8 * at);
-    if (offset == CAPABILITIES && registers->capabilities)
-        return registers->capabilities;
-    return offset == PRESENT_STATE && registers->is_there ? value | THERE : value;
-}
-
-/* A register; of one byte the lowest counts. */
-static uint32_t read_register(const struct kelifandro_registers *registers, unsigned offset, unsigned size)
-{
-    if (registers->is_by_words || registers->is_there || registers->capabilities)
-        return read_of_board(registers, offset, size);
-    return registers->read(registers->context, offset, size);
-}
-
-/* The bytes beside one that is written by its word are written as they are: those of 28h and 2Ch, which keep what is written. */
-static void write_register(const struct kelifandro_registers *registers, unsigned offset, unsigned size, uint32_t value)
-{
-    unsigned at = offset % 4;
-    uint32_t word;
-    if (size != 1 || !registers->is_by_words) {
-        registers->write(registers->context, offset, size, value);
-        return;
-    }
-    word = registers->read(registers->context, offset - at, 4) & ~((uint32_t)0xff << (8 * at));
-    registers->write(registers->context, offset - at, 4, word | value << (8 * at));
-}
-
 /* A block through the Buffer Data Port, by one call where there is one for it. */
-static void read_port(const struct kelifandro_registers *registers, uint8_t *bytes, size_t n)
+static void read_by_port(const struct kelifandro_registers *registers, uint8_t *bytes, size_t n)
 {
     if (registers->read_port) {
         registers->read_port(registers->context, bytes, n / 4);
         return;
     }
     for (size_t i = 0; i + 4 <= n; i += 4)
-        answer_word(bytes + i, registers->read(registers->context, 0x20, 4));
+        put_word(bytes + i, registers->read(registers->context, PORT, 4));
 }
 
-static void write_port(const struct kelifandro_registers *registers, const uint8_t *bytes, size_t n)
+APART static void write_by_port(const struct kelifandro_registers *registers, const uint8_t *bytes)
 {
     if (registers->write_port) {
-        registers->write_port(registers->context, bytes, n / 4);
+        registers->write_port(registers->context, bytes, BLOCK / 4);
         return;
     }
-    for (size_t i = 0; i + 4 <= n; i += 4)
-        registers->write(registers->context, 0x20, 4, word_at(bytes + i));
+    for (size_t i = 0; i < BLOCK; i += 4)
+        registers->write(registers->context, PORT, 4, word_at(bytes + i));
 }
 
-static void take_back(struct kelifandro_call *call, const struct kelifandro_registers *registers)
+static void read_register(struct kelifandro_call *call, const struct kelifandro_registers *registers, const uint8_t *record)
 {
-    if (call->table_lent)
-        registers->take_back(registers->context, registers->table, call->table_lent, 0);
-    if (call->lent)
-        registers->take_back(registers->context, call->memory, (size_t)call->lent * BLOCK, call->is_room);
-    call->table_lent = call->lent = 0;
+    int is_hidden = record[2] == RESPONSE && is_unserved_question(call->index);
+    call->answer[0] = is_hidden ? 0 : registers->read(registers->context, record[2], record[1]);
+    call->next = ANSWER;
 }
 
-/* Lends the first blocks of the request's memory for DMA, if the port can. An address that is none for the library is given back: then
-   the blocks go through the Buffer Data Port. */
-APART static uint64_t lend(struct kelifandro_call *call, const struct kelifandro_registers *registers)
+static void write_register(struct kelifandro_call *call, const struct kelifandro_registers *registers, const uint8_t *record)
 {
-    size_t n = (size_t)call->lent * BLOCK;
-    uint64_t address = registers->lend ? registers->lend(registers->context, call->memory, n, call->is_room) : 0;
-    if (!address)
-        call->lent = 0;
-    else if (address % 4 || n > UINT64_MAX - address)
-        take_back(call, registers);
-    return address;
+    if (record[2] == COMMAND)
+        call->index = record[6] & 0x3f;
+    registers->write(registers->context, record[2], record[1], word_at(record + 3));
 }
 
-/* The next line of the table, as far as there is room. */
-static void put_line(struct kelifandro_call *call, const struct kelifandro_registers *registers, const uint8_t *line, size_t n)
+/* Lends the first blocks of the request's memory for DMA; the lines of a table come after that. */
+APART static void lend(struct kelifandro_call *call, const struct kelifandro_registers *registers, const uint8_t *record)
 {
-    size_t length = call->table_length;
-    uint8_t *table = registers->table;
-    for (size_t i = 0; length + n <= registers->table_size && i < n; i++)
-        table[length + i] = line[i];
-    call->table_length = length + n;
+    size_t n = (size_t)half_at(record + 2) * BLOCK;
+    call->table_length = 0;
+    answer(call, registers->lend(registers->context, call->memory, n, record[1]));
 }
 
-static uint64_t lend_table(struct kelifandro_call *call, const struct kelifandro_registers *registers)
+/* The next line of the table, for which there is room. */
+APART static void put_line(struct kelifandro_call *call, const struct kelifandro_registers *registers, const uint8_t *line, size_t n)
 {
-    uint64_t address = 0;
-    if (call->table_length <= registers->table_size)
-        address = registers->lend(registers->context, registers->table, call->table_length, 0);
-    call->table_lent = address ? call->table_length : 0;
-    return address;
+    for (size_t i = 0; i < n; i++)
+        ((uint8_t *)registers->table)[call->table_length++] = line[i];
 }
 
-#endif
-
-static void pause_for(const struct kelifandro *kelifandro, uint32_t microseconds)
+APART static void lend_table(struct kelifandro_call *call, const struct kelifandro_registers *registers)
 {
-    if (is_by_host(kelifandro))
-        kelifandro->host->pause(kelifandro->host->context, microseconds);
-    else
-        kelifandro->registers->pause(kelifandro->registers->context, microseconds);
+    answer(call, registers->lend(registers->context, registers->table, call->table_length, 0));
 }
 
-/* Does what a record says where nothing comes of it; else notes what is asked. */
-APART static int64_t take_record(struct kelifandro *kelifandro, const uint8_t *record, size_t n)
+/* Takes back a table, and what was lent; what was read has come to its places. */
+APART static void take_memory_back(struct kelifandro_call *call, const struct kelifandro_registers *registers, const uint8_t *record)
 {
-    struct kelifandro_call *call = &kelifandro->call;
-    switch (call->operation) {
+    size_t table = half_at(record + 4);
+    uint16_t lent = half_at(record + 2);
+    if (table)
+        registers->take_back(registers->context, registers->table, table, 0);
+    registers->take_back(registers->context, call->memory, (size_t)lent * BLOCK, record[1]);
+    call->came = record[1] ? lent : 0;
+}
+
+/* What isn't an access of a register, which is what most records are. */
+APART static void tell_registers(struct kelifandro_call *call, const struct kelifandro_registers *registers, const uint8_t *record, size_t n)
+{
+    switch (record[0]) {
     case PAUSE:
-        pause_for(kelifandro, word_at(record + 1));
+        registers->pause(registers->context, word_at(record + 1));
         break;
-#ifndef KELIFANDRO_WITHOUT_HOST
-    case SEND:
-    case READ_WITH:
-    case WRITE_WITH:
-        take_command(call, record);
-        break;
-    case LOOK:
-        call->look_time = word_at(record + 1);
-        break;
-    case SET_IOS:
-        kelifandro->host->set_ios(kelifandro->host->context, record[1], record[2], word_at(record + 3));
-        break;
-#endif
-#ifndef KELIFANDRO_WITHOUT_REGISTERS
-    case WRITE_REGISTER:
-#if defined KELIFANDRO_WITHOUT_MMC || defined KELIFANDRO_WITHOUT_SD
-        if (record[2] == COMMAND)
-            call->command.index = record[6] & 0x3f;
-#endif
-        write_register(kelifandro->registers, record[2], record[1], word_at(record + 3));
-        break;
-    case LEND_ROOM:
-    case LEND_BLOCKS:
-        call->lent = half_at(record + 1);
-        call->is_room = call->operation == LEND_ROOM;
-        call->table_length = 0;
+    case LEND:
+        lend(call, registers, record);
         break;
     case LINE:
     case LAST_LINE:
-        put_line(call, kelifandro->registers, record, n);
+        put_line(call, registers, record, n);
         break;
-    case TAKE_PLACES:
-        /* they have come to their places */
-        call->came = call->lent;
-        take_back(call, kelifandro->registers);
+    case LEND_TABLE:
+        lend_table(call, registers);
         break;
     case TAKE_BACK:
-        take_back(call, kelifandro->registers);
-        call->came = 0;
+        take_memory_back(call, registers, record);
         break;
-#endif
     }
-    return (int64_t)n;
 }
-
-/* A block, to the card's host or through the Buffer Data Port. */
-APART static int64_t take_block(struct kelifandro *kelifandro, const uint8_t *block)
-{
-    const struct kelifandro_host *host = kelifandro->host;
-#ifndef KELIFANDRO_WITHOUT_REGISTERS
-    if (!is_by_host(kelifandro)) {
-        write_port(kelifandro->registers, block, BLOCK);
-        return BLOCK;
-    }
 #endif
-    kelifandro->call.answer = host->write_block ? host->write_block(host->context, block) : 2;
-    kelifandro->call.operation = WROTE_BLOCK;
-    return BLOCK;
-}
 
-/* A register is asked for most. */
+/* A record, or a block, which goes to the card's host or through the Buffer Data Port. */
 int64_t kelifandro_put(int32_t stream, const uint8_t *bytes, uint64_t n)
 {
     struct kelifandro *kelifandro = card_of(stream);
     struct kelifandro_call *call = &kelifandro->call;
     call->came = 0;
+    call->next = NOTHING;
+#ifndef KELIFANDRO_WITHOUT_REGISTERS
+    if (!is_by_host(kelifandro)) {
+        if (n == BLOCK)
+            write_by_port(kelifandro->registers, bytes);
+        else if (*bytes == READ_REGISTER)
+            read_register(call, kelifandro->registers, bytes);
+        else if (*bytes == WRITE_REGISTER)
+            write_register(call, kelifandro->registers, bytes);
+        else
+            tell_registers(call, kelifandro->registers, bytes, (size_t)n);
+        return (int64_t)n;
+    }
+#endif
+#ifndef KELIFANDRO_WITHOUT_HOST
     if (n == BLOCK)
-        return take_block(kelifandro, bytes);
-    call->operation = bytes[0];
-    if (call->operation != READ_REGISTER)
-        return take_record(kelifandro, bytes, (size_t)n);
-    call->size = bytes[1];
-    call->offset = bytes[2];
-    return 3;
+        write_alone(call, kelifandro->host, bytes);
+    else
+        tell_host(call, kelifandro->host, bytes);
+#endif
+    return (int64_t)n;
 }
 
 /* Whoever wants to show them has the registers that come as blocks: the SCR, and the EXT_CSD, which is what has the length of a sector in
@@ -463,12 +424,12 @@ int64_t kelifandro_put(int32_t stream, const uint8_t *bytes, uint64_t n)
 static void show(struct kelifandro *kelifandro, const uint8_t *bytes, size_t n)
 {
     uint8_t *to = n == sizeof kelifandro->scr ? kelifandro->scr : n == BLOCK ? kelifandro->ext_csd : 0;
-    for (size_t i = 0; to && i < n; i++)
-        to[i] = bytes[i];
+    if (to)
+        copy(to, bytes, n);
 }
 
-/* The next block: a good one comes whole, a bad one as one byte, or none. */
-static int64_t answer_block(struct kelifandro *kelifandro, uint8_t *bytes, size_t n)
+/* The next block: a good one comes whole, a bad one as one byte and no more, or none. */
+APART static int64_t get_block(struct kelifandro *kelifandro, uint8_t *bytes, size_t n)
 {
     struct kelifandro_call *call = &kelifandro->call;
     int what = 0;
@@ -478,10 +439,9 @@ static int64_t answer_block(struct kelifandro *kelifandro, uint8_t *bytes, size_
 #endif
 #ifndef KELIFANDRO_WITHOUT_REGISTERS
     if (!is_by_host(kelifandro))
-        read_port(kelifandro->registers, bytes, n);
+        read_by_port(kelifandro->registers, bytes, n);
 #endif
-    if (what == 1)
-        call->operation = GOT_BAD;
+    call->next = what == 1 ? END : NOTHING;
     if (what != 0)
         return what == 1;
     if (call->memory == call->block)
@@ -489,74 +449,24 @@ static int64_t answer_block(struct kelifandro *kelifandro, uint8_t *bytes, size_
     return (int64_t)n;
 }
 
-/* What comes of the last record or block, once. */
-APART static int64_t answer(struct kelifandro *kelifandro, uint8_t *bytes, size_t n)
-{
-    struct kelifandro_call *call = &kelifandro->call;
-    uint8_t asked = call->operation;
-    call->operation = NOTHING;
-    switch (asked) {
-    case NOTHING:
-        return answer_block(kelifandro, bytes, n);
-#ifndef KELIFANDRO_WITHOUT_HOST
-    case SEND:
-    case READ_WITH:
-    case WRITE_WITH:
-        answer_command(call, kelifandro->host, asked != SEND, bytes);
-        return (int64_t)n;
-    case LOOK:
-        *bytes = kelifandro->host->is_busy(kelifandro->host->context, call->look_time) != 0;
-        return 1;
-    case WROTE_BLOCK:
-        *bytes = call->answer == 0 ? 1 : call->answer == 1 ? 2 : 0;
-        return 1;
-    case LIMITS:
-        bytes[0] = kelifandro->host->lines;
-        bytes[1] = kelifandro->host->high_speed;
-        return 2;
-#endif
-#ifndef KELIFANDRO_WITHOUT_REGISTERS
-    case LEND_ROOM:
-    case LEND_BLOCKS:
-        answer_long(bytes, lend(call, kelifandro->registers));
-        return 8;
-    case LEND_TABLE:
-        answer_long(bytes, lend_table(call, kelifandro->registers));
-        return 8;
-#endif
-    default:
-        return 0;
-    }
-}
-
-#ifndef KELIFANDRO_WITHOUT_REGISTERS
-/* The register that was asked for. */
-APART static int64_t answer_register(struct kelifandro *kelifandro, uint8_t *bytes)
-{
-    struct kelifandro_call *call = &kelifandro->call;
-    call->operation = NOTHING;
-    if (call->offset == RESPONSE && is_unserved_question(call->command.index))
-        answer_word(bytes, 0);
-    else
-        answer_word(bytes, read_register(kelifandro->registers, call->offset, call->size));
-    return 4;
-}
-#endif
-
-/* Blocks that have come with a command are in their places already. */
+/* What came of a record, or a block; those that have come with a command are in their places already. */
 int64_t kelifandro_get(int32_t stream, uint8_t *bytes, uint64_t n)
 {
     struct kelifandro *kelifandro = card_of(stream);
     struct kelifandro_call *call = &kelifandro->call;
-    if (call->came) {
+    uint8_t next = call->next;
+    call->next = NOTHING;
+    if (next == END)
+        return 0;
+    if (next == ANSWER && n == 4)
+        put_word(bytes, call->answer[0]);
+    else if (next == ANSWER)
+        give(bytes, call->answer, (size_t)n);
+    else if (!call->came)
+        return get_block(kelifandro, bytes, (size_t)n);
+    else
         call->came -= (uint16_t)((uint32_t)n / BLOCK);
-        return (int64_t)n;
-    }
-#ifndef KELIFANDRO_WITHOUT_REGISTERS
-    if (call->operation == READ_REGISTER)
-        return answer_register(kelifandro, bytes);
-#endif
-    return answer(kelifandro, bytes, (size_t)n);
+    return (int64_t)n;
 }
 
 static int has_way(const struct kelifandro *kelifandro)
@@ -570,59 +480,31 @@ static uint8_t part_number(enum kelifandro_part part)
     return (unsigned)part <= KELIFANDRO_GP4 ? (uint8_t)part : 255;
 }
 
-enum { MOST = 65535 };
-
-/* More blocks than a request may name are one more: it is refused before any is touched. */
-static uint64_t at_most(size_t count)
-{
-    return count > MOST ? MOST + 1 : count;
-}
-
-enum { SOFTWARE_RESET = 0x2f, RESET_COMMAND_AND_DATA = 6 };
-
-/* A call that failed may leave a command or data under way in a controller, whose registers are given: its command and data lines are
-   reset, so that the next call finds it as the driver wants it (SD Host Controller 3.00, section 2.2.16). */
-static int32_t ended(const struct kelifandro *kelifandro, int32_t result)
-{
-#ifndef KELIFANDRO_WITHOUT_REGISTERS
-    const struct kelifandro_registers *registers = kelifandro->registers;
-    if (is_by_host(kelifandro) || result > KELIFANDRO_FAILED_ANSWER || result < KELIFANDRO_FAILED_RECOVERY)
-        return result;
-    write_register(registers, SOFTWARE_RESET, 1, RESET_COMMAND_AND_DATA);
-    for (int look = 0; look < 1000 && read_register(registers, SOFTWARE_RESET, 1) & RESET_COMMAND_AND_DATA; look++)
-        registers->pause(registers->context, 100);
-#endif
-    (void)kelifandro;
-    return result;
-}
-
-/* A call begins. Answers the way's number. Where no sector is named the memory isn't looked at, and may be a null pointer; the library
-   wants one that isn't. */
-APART static uint8_t begin(struct kelifandro *kelifandro, const void *memory, size_t count)
+/* A call begins. Where no sector is named the memory isn't looked at, and may be a null pointer; the library wants one that isn't. */
+APART static struct kelifandro_way begin_call(struct kelifandro *kelifandro, const void *memory, uint64_t count)
 {
     struct kelifandro_call *call = &kelifandro->call;
     call->memory = count ? (void *)memory : call->block;
     call->resets = (uint32_t)kelifandro->healed.resets;
-    call->operation = NOTHING;
-    call->came = call->lent = 0;
-    call->table_lent = 0;
-    return !is_by_host(kelifandro);
+    call->next = NOTHING;
+    call->came = 0;
+    return way_of(kelifandro);
 }
 
 /* It ends. In two bytes of the card nothing is kept: the library may leave any there. */
-APART static int32_t end(struct kelifandro *kelifandro, int32_t result)
+APART static int32_t end_call(struct kelifandro *kelifandro, int32_t result)
 {
     kelifandro->card.unused[0] = kelifandro->card.unused[1] = 0;
     if ((uint32_t)kelifandro->healed.resets != kelifandro->call.resets)
         kelifandro->was_reset = 1;
-    return ended(kelifandro, result);
+    return result;
 }
 
 ON_STACK APART static int32_t open_once(struct kelifandro *kelifandro)
 {
     place at = kelifandro;
-    uint8_t way = begin(kelifandro, 0, 0);
-    return end(kelifandro, kelifandro_open_by(stream_of(&at), way, &kelifandro->card, &kelifandro->healed));
+    struct kelifandro_way way = begin_call(kelifandro, 0, 0);
+    return end_call(kelifandro, kelifandro_open_by(stream_of(&at), &way, &kelifandro->card, &kelifandro->healed));
 }
 
 /* Where the card's power can be switched it is on, and a card that isn't found has been without it once. */
@@ -656,87 +538,77 @@ int32_t kelifandro_open(struct kelifandro *kelifandro)
     return result;
 }
 
-enum { POWER_CONTROL = 0x29 };
-
-void kelifandro_close(struct kelifandro *kelifandro)
+ON_STACK void kelifandro_close(struct kelifandro *kelifandro)
 {
     kelifandro->card.state = 0;
     if (!has_way(kelifandro))
         return;
 #ifndef KELIFANDRO_WITHOUT_REGISTERS
-    if (!is_by_host(kelifandro))
-        write_register(kelifandro->registers, POWER_CONTROL, 1, 0);
+    if (!is_by_host(kelifandro)) {
+        place at = kelifandro;
+        struct kelifandro_way way = begin_call(kelifandro, 0, 0);
+        kelifandro_close_by(stream_of(&at), &way);
+    }
 #endif
     if (is_by_host(kelifandro) && kelifandro->host->set_power)
         kelifandro->host->set_power(kelifandro->host->context, 0);
 }
 
-/* What a request is answered before the proved library sees it; DONE where that judges it, as it does where there is no such partition. */
-APART static int32_t refused(const struct kelifandro *kelifandro, enum kelifandro_part part)
-{
-    if (!has_way(kelifandro))
-        return KELIFANDRO_NO_HOST;
-    return is_unserved(&kelifandro->card) && part_number(part) <= KELIFANDRO_GP4 ? KELIFANDRO_NOT_OPEN : KELIFANDRO_DONE;
-}
+/* Serves a request: by the kind of it, and its memory or none. It is answered here where there is no way, and in a small library where the
+   card is of a kind that isn't served; all else the proved library judges, first whether there is such a partition. */
+enum kind { READ, WRITE, ERASE, TRIM };
 
-/* Reads into the memory, or writes what is there. */
-ON_STACK APART static int32_t move(struct kelifandro *kelifandro, enum kelifandro_part part, uint64_t start, size_t count, const void *bytes,
-                          int is_write)
+ON_STACK APART static int32_t serve(struct kelifandro *kelifandro, enum kind kind, enum kelifandro_part part, uint64_t start, uint64_t count,
+                                    const void *bytes)
 {
     place at = kelifandro;
-    uint8_t way, number = part_number(part);
-    void *memory;
-    int32_t result = refused(kelifandro, part);
-    if (result != KELIFANDRO_DONE)
-        return result;
-    way = begin(kelifandro, bytes, count);
+    struct kelifandro_way way;
+    void *card = &kelifandro->card, *healed = &kelifandro->healed, *memory;
+    uint8_t number = part_number(part);
+    if (!has_way(kelifandro))
+        return KELIFANDRO_NO_HOST;
+    if (is_unserved(&kelifandro->card) && number <= KELIFANDRO_GP4)
+        return KELIFANDRO_NOT_OPEN;
+    way = begin_call(kelifandro, bytes, kind == READ || kind == WRITE ? count : 0);
     memory = kelifandro->call.memory;
+    switch (kind) {
 #ifndef KELIFANDRO_WITHOUT_WRITE
-    if (is_write)
-        return end(kelifandro, kelifandro_write_by(stream_of(&at), way, &kelifandro->card, &kelifandro->healed, number, start, memory,
-                                                   at_most(count)));
+    case WRITE:
+        return end_call(kelifandro, kelifandro_write_by(stream_of(&at), &way, card, healed, number, start, memory, at_most(count)));
 #endif
-    (void)is_write;
-    return end(kelifandro, kelifandro_read_by(stream_of(&at), way, &kelifandro->card, &kelifandro->healed, number, start, memory,
-                                              at_most(count)));
+#ifndef KELIFANDRO_WITHOUT_ERASE
+    case ERASE:
+        return end_call(kelifandro, kelifandro_erase_by(stream_of(&at), &way, card, healed, number, start, count));
+    case TRIM:
+        return end_call(kelifandro, kelifandro_trim_by(stream_of(&at), &way, card, healed, number, start, count));
+#endif
+    default:
+        return end_call(kelifandro, kelifandro_read_by(stream_of(&at), &way, card, healed, number, start, memory, at_most(count)));
+    }
 }
 
 int32_t kelifandro_read(struct kelifandro *kelifandro, enum kelifandro_part part, uint64_t start, size_t count, void *bytes)
 {
-    return move(kelifandro, part, start, count, bytes, 0);
+    return serve(kelifandro, READ, part, start, count, bytes);
 }
 
 #ifndef KELIFANDRO_WITHOUT_WRITE
 int32_t kelifandro_write(struct kelifandro *kelifandro, enum kelifandro_part part, uint64_t start, size_t count,
                          const void *bytes)
 {
-    return move(kelifandro, part, start, count, bytes, 1);
+    return serve(kelifandro, WRITE, part, start, count, bytes);
 }
 #endif
 
 #ifndef KELIFANDRO_WITHOUT_ERASE
-/* Erases the sectors, or trims them. */
-ON_STACK APART static int32_t give_up(struct kelifandro *kelifandro, enum kelifandro_part part, uint64_t start, uint64_t count, int is_trim)
-{
-    place at = kelifandro;
-    uint8_t way, number = part_number(part);
-    int32_t result = refused(kelifandro, part);
-    if (result != KELIFANDRO_DONE)
-        return result;
-    way = begin(kelifandro, 0, 0);
-    return end(kelifandro,
-               is_trim ? kelifandro_trim_by(stream_of(&at), way, &kelifandro->card, &kelifandro->healed, number, start, count)
-                       : kelifandro_erase_by(stream_of(&at), way, &kelifandro->card, &kelifandro->healed, number, start, count));
-}
-
 int32_t kelifandro_erase(struct kelifandro *kelifandro, enum kelifandro_part part, uint64_t start, uint64_t count)
 {
-    return give_up(kelifandro, part, start, count, 0);
+    return serve(kelifandro, ERASE, part, start, count, 0);
 }
 
 int32_t kelifandro_trim(struct kelifandro *kelifandro, enum kelifandro_part part, uint64_t start, uint64_t count)
 {
-    return give_up(kelifandro, part, start, count, 1);
+    return serve(kelifandro, TRIM, part, start, count, 0);
 }
 #endif
 
@@ -749,16 +621,15 @@ static size_t longest(const struct kelifandro *kelifandro)
 }
 
 /* Reads or writes any number of sectors, none where they don't all lie in the partition. */
-static int32_t in_parts(struct kelifandro *kelifandro, enum kelifandro_part part, uint64_t start, size_t count, uint8_t *bytes,
-                        int is_write, size_t *done)
+static int32_t in_parts(struct kelifandro *kelifandro, enum kind kind, enum kelifandro_part part, uint64_t start, size_t count,
+                        const uint8_t *bytes, size_t *done)
 {
     uint64_t size = kelifandro_sectors(kelifandro, part);
     size_t sectors = 0, most = longest(kelifandro);
     int32_t result = size && (start > size || count > size - start) ? KELIFANDRO_OUT_OF_RANGE : KELIFANDRO_DONE;
     while (result == KELIFANDRO_DONE && (sectors < count || count == 0)) {
         size_t n = count - sectors < most ? count - sectors : most;
-        uint8_t *at = count ? bytes + 512 * sectors : bytes;
-        result = move(kelifandro, part, start + sectors, n, at, is_write);
+        result = serve(kelifandro, kind, part, start + sectors, n, count ? bytes + 512 * sectors : bytes);
         sectors += result == KELIFANDRO_DONE ? n : 0;
     }
     if (done)
@@ -769,29 +640,27 @@ static int32_t in_parts(struct kelifandro *kelifandro, enum kelifandro_part part
 int32_t kelifandro_read_long(struct kelifandro *kelifandro, enum kelifandro_part part, uint64_t start, size_t count, void *bytes,
                              size_t *done)
 {
-    return in_parts(kelifandro, part, start, count, bytes, 0, done);
+    return in_parts(kelifandro, READ, part, start, count, bytes, done);
 }
 
 #ifndef KELIFANDRO_WITHOUT_WRITE
 int32_t kelifandro_write_long(struct kelifandro *kelifandro, enum kelifandro_part part, uint64_t start, size_t count,
                               const void *bytes, size_t *done)
 {
-    return in_parts(kelifandro, part, start, count, (uint8_t *)bytes, 1, done);
+    return in_parts(kelifandro, WRITE, part, start, count, bytes, done);
 }
 #endif
 
-/* What a function of the host says, where there is one; else a bit of Present State, turned or not. */
+/* What a function of the host says, where there is one; else a bit of Present State: where there is always a card, that it is there and may
+   be written to. */
 APART static int32_t is_present(const struct kelifandro *kelifandro, int (*told)(void *context), int bit, int is_turned)
 {
+    const struct kelifandro_registers *registers = kelifandro->registers;
     if (!has_way(kelifandro))
         return KELIFANDRO_NO_HOST;
     if (is_by_host(kelifandro))
         return told ? told(kelifandro->host->context) != 0 : KELIFANDRO_NO_HOST;
-#ifndef KELIFANDRO_WITHOUT_REGISTERS
-    return (int32_t)(read_register(kelifandro->registers, PRESENT_STATE, 4) >> bit & 1) ^ is_turned;
-#else
-    return (void)bit, (void)is_turned, KELIFANDRO_NO_HOST;
-#endif
+    return (registers->is_there || registers->read(registers->context, PRESENT_STATE, 4) >> bit & 1) ^ is_turned;
 }
 
 int32_t kelifandro_is_inserted(const struct kelifandro *kelifandro)
@@ -818,48 +687,28 @@ uint64_t kelifandro_sectors(const struct kelifandro *kelifandro, enum kelifandro
 
 const char *kelifandro_text(int32_t result)
 {
-    switch (result) {
-    case KELIFANDRO_DONE:
-        return "done";
-    case KELIFANDRO_NOT_OPEN:
-        return "the card isn't open";
-    case KELIFANDRO_NO_PARTITION:
-        return "the card has no such partition";
-    case KELIFANDRO_OUT_OF_RANGE:
-        return "sectors past the partition's end";
-    case KELIFANDRO_COUNT:
-        return "no sector, or more than 65,535";
-    case KELIFANDRO_READ_ONLY:
-        return "the card is write protected";
-    case KELIFANDRO_NOT_ERASABLE:
-        return "the card can't erase these sectors so";
-    case KELIFANDRO_NO_HOST:
-        return "neither a host nor registers are given";
-    case KELIFANDRO_FAILED_ANSWER:
-        return "failed: a response";
-    case KELIFANDRO_FAILED_DATA:
-        return "failed: a block";
-    case KELIFANDRO_FAILED_STATUS:
-        return "failed: the card's status";
-    case KELIFANDRO_FAILED_BUSY:
-        return "failed: busy for too long";
-    case KELIFANDRO_FAILED_RECOVERY:
-        return "failed: recovery";
-    case KELIFANDRO_NO_CARD:
-        return "no card answers";
-    case KELIFANDRO_UNSUPPORTED:
-        return "the card isn't supported";
-    case KELIFANDRO_NO_VOLTAGE:
-        return "the controller has no 3.3 V";
-    case KELIFANDRO_NO_BASE_CLOCK:
-        return "the controller doesn't tell its base clock";
-    case KELIFANDRO_NOT_INSERTED:
-        return "no card is inserted";
-    case KELIFANDRO_CARD_VOLTAGE:
-        return "the card doesn't work at 3.3 V";
-    case KELIFANDRO_LOCKED:
-        return "the card is locked";
-    default:
-        return "no such result";
-    }
+    static const char *const texts[] = {
+        [-KELIFANDRO_DONE] = "done",
+        [-KELIFANDRO_NOT_OPEN] = "the card isn't open",
+        [-KELIFANDRO_NO_PARTITION] = "the card has no such partition",
+        [-KELIFANDRO_OUT_OF_RANGE] = "sectors past the partition's end",
+        [-KELIFANDRO_COUNT] = "no sector, or more than 65,535",
+        [-KELIFANDRO_READ_ONLY] = "the card is write protected",
+        [-KELIFANDRO_NOT_ERASABLE] = "the card can't erase these sectors so",
+        [-KELIFANDRO_NO_HOST] = "neither a host nor registers are given",
+        [-KELIFANDRO_FAILED_ANSWER] = "failed: a response",
+        [-KELIFANDRO_FAILED_DATA] = "failed: a block",
+        [-KELIFANDRO_FAILED_STATUS] = "failed: the card's status",
+        [-KELIFANDRO_FAILED_BUSY] = "failed: busy for too long",
+        [-KELIFANDRO_FAILED_RECOVERY] = "failed: recovery",
+        [-KELIFANDRO_NO_CARD] = "no card answers",
+        [-KELIFANDRO_UNSUPPORTED] = "the card isn't supported",
+        [-KELIFANDRO_NO_VOLTAGE] = "the controller has no 3.3 V",
+        [-KELIFANDRO_NO_BASE_CLOCK] = "the controller doesn't tell its base clock",
+        [-KELIFANDRO_NOT_INSERTED] = "no card is inserted",
+        [-KELIFANDRO_CARD_VOLTAGE] = "the card doesn't work at 3.3 V",
+        [-KELIFANDRO_LOCKED] = "the card is locked",
+    };
+    const char *text = result <= 0 && result >= KELIFANDRO_LOCKED ? texts[-result] : 0;
+    return text ? text : "no such result";
 }

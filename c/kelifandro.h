@@ -249,15 +249,12 @@ struct kelifandro_healed {
 /* What the library keeps of the call that is made. Nobody else reads or writes it, and between two calls it means nothing. */
 struct kelifandro_call {
     uint32_t resets; /* that were counted before, the lower half */
-    /* The memory of the request, and how many bytes of a table for DMA have come and are lent. */
-    void *memory;
-    size_t table_length, table_lent;
-    struct kelifandro_command command;
-    uint32_t look_time;
-    /* How many blocks may be moved with the command, have come with it, and are lent for DMA. */
-    uint16_t behind, came, lent;
-    uint8_t is_room, operation, size, offset;
-    int answer;
+    uint16_t came;   /* so many blocks have come with a command, or by DMA */
+    uint8_t next, index;
+    void *memory; /* of the request */
+    size_t table_length;
+    int kept; /* whether a block is kept that came with a command */
+    uint32_t answer[6];
     uint8_t block[512];
 };
 

@@ -485,8 +485,11 @@ static int is_busy(void *context, uint32_t microseconds)
 {
     struct card *card = context;
     int is_answer_lost = is_lost(card);
-    (void)microseconds;
     card->is_look_lost |= is_answer_lost;
+    if (card->is_busy && microseconds < card->slow) {
+        card->slow -= microseconds;
+        return 1;
+    }
     if (is_answer_lost && card->is_busy)
         return 1;
     rest(card);

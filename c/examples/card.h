@@ -23,6 +23,7 @@ struct card {
     uint32_t next, left;  /* the next sector, and how many are left; 0xffffffff until CMD12 */
     int is_single;        /* a write of one block */
     int is_busy;          /* DAT0 is low */
+    uint32_t slow;        /* for so many microseconds more, as a test sets it */
     unsigned held;        /* how many addresses of an erase have come, the first and the last one */
     uint32_t erased[2];
     /* a register that is sent as a block: of so many bytes, 0 where sectors are sent, and the timing once it is sent */

@@ -198,6 +198,31 @@ static void long_requests(enum way way)
     expect(card.answers == before, "nothing is sent", way);
 }
 
+static int send_nothing(void *context, const struct kelifandro_command *command, uint32_t response[4])
+{
+    (void)context, (void)command, (void)response;
+    return KELIFANDRO_TIMEOUT;
+}
+
+/* A card that is busy for 0.4 s after a write and for 100 s after an erase, which it may be; and one that is gone: of what fails nothing
+   is done. */
+static void slow_and_gone(void)
+{
+    static struct kelifandro_host gone;
+    size_t done = 1;
+    begin(0, HOST);
+    expect(kelifandro_open(&sd) == KELIFANDRO_DONE, "opening", HOST);
+    card.slow = 400000;
+    expect(kelifandro_write(&sd, KELIFANDRO_USER, 3, 2, back) == KELIFANDRO_DONE, "a slow write", HOST);
+    card.slow = 100000000;
+    expect(kelifandro_erase(&sd, KELIFANDRO_USER, 8, 8) == KELIFANDRO_DONE, "a slow erase", HOST);
+    gone = card_host;
+    gone.context = &card;
+    gone.send = send_nothing;
+    sd.host = &gone;
+    expect(kelifandro_read_long(&sd, KELIFANDRO_USER, 3, 2, back, &done) < KELIFANDRO_DONE && done == 0, "a card that is gone", HOST);
+}
+
 /* What the switches of the slot say, and the card's power. */
 static int is_there, is_locked, is_hanging;
 static char power_told[8];
@@ -279,6 +304,7 @@ static void shown(enum way way)
     expect(kelifandro_open(&sd) == KELIFANDRO_DONE && memcmp(sd.scr, none, 8) == 0, "no SCR", way);
     expect(ext_csd[192] == 6 && ext_csd[213] == USER_SECTORS >> 8 && ext_csd[511] == 0, "the EXT_CSD", way);
     memset(ext_csd, 0, sizeof ext_csd);
+    memset(card.user[8], 6, 512);
     expect(kelifandro_read(&sd, KELIFANDRO_USER, 7, 2, back) == KELIFANDRO_DONE && ext_csd[192] == 0, "no sector for it", way);
 }
 
@@ -397,6 +423,7 @@ int main(int words, char **word)
     late = 0;
     for (int way = HOST; way <= DMA_BY_WIDE_TABLE; way++)
         refusals(way), long_requests(way), switches(way), shown(way);
+    slow_and_gone();
     slot();
     within_each_other();
     lost_ways();

@@ -6,8 +6,8 @@ and the compiler finds what nobody needs then."""
 import re
 
 CUTS = {
-    'host': [r'c_host::stream::Stream::(limits|set_ios|send|is_busy|read_block|write_block|read_with|write_with|send_with)\b'],
-    'registers': [r'mmc_sdhci::sdhci::Sdhci'],
+    'host': [r'c_host::stream::Stream::(set_ios|send|is_busy|read_block|write_block|read_with|write_with|send_with)\b'],
+    'registers': [r'mmc_sdhci::sdhci::Sdhci', r'kelifandro_close_by$'],
     'mmc': [r'mmc_identify::mmc::assign\b', r'mmc_switch::mmc::(widen|switch)\b', r'mmc_switch::registers::mmc_info\b'],
     'sd': [r'mmc_identify::sd::publish\b', r'mmc_switch::sd::widen\b', r'mmc_switch::registers::sd_info\b'],
     'erase': [r'kelifandro_(erase|trim)_by$'],

@@ -120,13 +120,13 @@ static uint8_t part_of(uint8_t part)
     return part == NO_PART ? trace_no_part : part;
 }
 
-WRAPPED(int32_t, kelifandro_open_by, (uint32_t stream, uint8_t way, void *card, void *healed))
+WRAPPED(int32_t, kelifandro_open_by, (uint32_t stream, const void *way, void *card, void *healed))
 {
     return ended(__real_kelifandro_open_by(stream, way, card, healed), card, healed);
 }
 
 WRAPPED(int32_t, kelifandro_read_by,
-        (uint32_t stream, uint8_t way, void *card, void *healed, uint8_t part, uint64_t start, void *blocks, uint64_t count))
+        (uint32_t stream, const void *way, void *card, void *healed, uint8_t part, uint64_t start, void *blocks, uint64_t count))
 {
     int32_t result = ended(__real_kelifandro_read_by(stream, way, card, healed, part_of(part), start, blocks, count), card, healed);
     if (result == KELIFANDRO_DONE)
@@ -135,19 +135,19 @@ WRAPPED(int32_t, kelifandro_read_by,
 }
 
 WRAPPED(int32_t, kelifandro_write_by,
-        (uint32_t stream, uint8_t way, void *card, void *healed, uint8_t part, uint64_t start, const void *blocks, uint64_t count))
+        (uint32_t stream, const void *way, void *card, void *healed, uint8_t part, uint64_t start, const void *blocks, uint64_t count))
 {
     return ended(__real_kelifandro_write_by(stream, way, card, healed, part_of(part), start, blocks, count), card, healed);
 }
 
 WRAPPED(int32_t, kelifandro_erase_by,
-        (uint32_t stream, uint8_t way, void *card, void *healed, uint8_t part, uint64_t start, uint64_t count))
+        (uint32_t stream, const void *way, void *card, void *healed, uint8_t part, uint64_t start, uint64_t count))
 {
     return ended(__real_kelifandro_erase_by(stream, way, card, healed, part_of(part), start, count), card, healed);
 }
 
 WRAPPED(int32_t, kelifandro_trim_by,
-        (uint32_t stream, uint8_t way, void *card, void *healed, uint8_t part, uint64_t start, uint64_t count))
+        (uint32_t stream, const void *way, void *card, void *healed, uint8_t part, uint64_t start, uint64_t count))
 {
     return ended(__real_kelifandro_trim_by(stream, way, card, healed, part_of(part), start, count), card, healed);
 }

@@ -1,5 +1,8 @@
+pub mod Given
+pub mod Lending
 pub mod Noted
 pub mod Records
+pub mod Registers
 pub mod Run
 pub mod RunLaws
 pub mod Talk

@@ -5,7 +5,6 @@ use Rattle.mmc_card.specs.declared.exchange.DataIn.{DataIn}
 use Rattle.mmc_card.specs.declared.exchange.DataIn.TheVariants as Received
 use Rattle.mmc_card.specs.declared.exchange.DataOut.{DataOut}
 use Rattle.mmc_card.specs.declared.exchange.DataOut.TheVariants as Sent
-use Rattle.mmc_card.specs.declared.exchange.Lines.{Lines}
 use Rattle.mmc_card.specs.declared.exchange.Timing.{Timing}
 use Rattle.mmc_card.specs.declared.exchange.Timing.TheVariants.{Default, High}
 use Rattle.mmc_card.specs.declared.exchange.Width.{Width}
@@ -61,25 +60,37 @@ command_record command = 1 ∷ command_bytes command
 abbrev pub with_record : ℕ → HostCommand → ℕ → List ℕ
 with_record operation command count = operation ∷ (command_bytes command ++ take 2 (to_le_bytes w64 count))
 
--- Its answer: bits 127 to 8 of a register, the highest byte first, or a word; and after these fifteen bytes why no response was heard, 0 where
--- one was.
+-- Its answer: four words, of a register bits 127 to 96 first, and otherwise the response in the first of them; two bytes and a byte for blocks;
+-- and in the last four why no response was heard, 0 where one was.
 
 abbrev pub fault_by : ℕ → ResponseFault
 fault_by number = if number == 2 then Check else if number == 3 then EndBit else if number == 4 then Index else Timeout
 
+-- the bytes at these places of an answer
+abbrev pub at_places : List ℕ → List ℕ → List ℕ
+at_places [] answer = []
+at_places (place ∷ places) answer = slice_index answer place ∷ at_places places answer
+
+-- bits 127 to 8 of a register, the highest byte first
+abbrev pub register_in : List ℕ → List ℕ
+register_in = at_places (3 ∷ 2 ∷ 1 ∷ 0 ∷ 7 ∷ 6 ∷ 5 ∷ 4 ∷ 11 ∷ 10 ∷ 9 ∷ 8 ∷ 15 ∷ 14 ∷ 13 ∷ [])
+
 abbrev pub heard_in : Response → List ℕ → Heard
-heard_in To.Nothing bytes = Came.Nothing
-heard_in To.R2 bytes = Came.Register bytes
-heard_in _ bytes = Came.Word (from_le_bytes w32 (take 4 bytes))
+heard_in To.Nothing answer = Came.Nothing
+heard_in To.R2 answer = Came.Register (register_in answer)
+heard_in _ answer = Came.Word (from_le_bytes w32 (at_places (0 ∷ 1 ∷ 2 ∷ 3 ∷ []) answer))
+
+abbrev pub fault_in : List ℕ → ℕ
+fault_in answer = from_le_bytes w32 (at_places (19 ∷ 20 ∷ 21 ∷ 22 ∷ []) answer)
 
 abbrev pub heard_by : Response → List ℕ → Result Heard ResponseFault
 heard_by response answer =
-    if slice_index answer 15 == 0 then Ok (heard_in response (take 15 answer)) else Err (fault_by (slice_index answer 15))
+    if fault_in answer == 0 then Ok (heard_in response answer) else Err (fault_by (fault_in answer))
 
--- After them, where C was to move blocks with the command: how many were good, and what became of one that failed, 0 where none did.
+-- And where C was to move blocks with the command: how many were good, and what became of one that failed, 0 where none did.
 
 abbrev pub good_by : List ℕ → ℕ
-good_by answer = from_le_bytes w16 (slice_index answer 16 ∷ slice_index answer 17 ∷ [])
+good_by answer = from_le_bytes w16 (at_places (16 ∷ 17 ∷ []) answer)
 
 abbrev pub failed_by : ℕ → Option DataIn
 failed_by number = if number == 0 then None else if number == 1 then Some Received.Bad else Some Received.Nothing
@@ -147,11 +158,3 @@ clock_number ios = if ios.is_identifying then 400000 else clock_at ios.timing
 
 abbrev pub ios_record : Ios → List ℕ
 ios_record ios = 5 ∷ lines_number ios.width ∷ timing_number ios.timing ∷ to_le_bytes w32 (clock_number ios)
-
-abbrev pub lines_by : List ℕ → Lines
-lines_by (lines ∷ high ∷ []) =
-    record {
-      width = if lines == 8 then Eight else if lines == 4 then Four else One;
-      timing = if high == 0 then Default else High;
-    }
-lines_by _ = record { width = One; timing = Default }

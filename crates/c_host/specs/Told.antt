@@ -1,8 +1,6 @@
 -- What C is told by each call, and how its answer is read: the talk after a call, by the talk before it.
-use Rattle.std.specs.Int.{from_le_bytes, to_le_bytes, w64}
-use Rattle.std.specs.Prelude.{[], ◌%◌, ◌*◌, ◌+◌, ◌==◌, ◌^◌, ◌||◌, ◌∷◌, ◌≡◌, Bool, List, None, Option, Result, Some, if◌then◌else◌, length, nat_le, not}
-use Rattle.std.specs.Prelude.{◌&&◌}
-use Rattle.std.specs.Prelude.{◌<◌, slice_index_or, slice_range, suc, take, zero, ℕ}
+use Rattle.std.specs.Prelude.{[], ◌*◌, ◌+◌, ◌∷◌, ◌≡◌, Bool, List, Result, length}
+use Rattle.std.specs.Prelude.{◌<◌, slice_index_or, slice_range, ℕ}
 use Rattle.mmc_card.specs.declared.exchange.DataIn.{DataIn}
 use Rattle.mmc_card.specs.declared.exchange.DataOut.{DataOut}
 use Rattle.mmc_bus.specs.declared.moved.Moved.{Moved}
@@ -10,8 +8,6 @@ use Rattle.mmc_host.specs.declared.told.Heard.{Heard}
 use Rattle.mmc_host.specs.declared.told.HostCommand.{HostCommand}
 use Rattle.mmc_host.specs.declared.told.Ios.{Ios}
 use Rattle.mmc_host.specs.declared.told.ResponseFault.{ResponseFault}
-use Rattle.mmc_sdhci.specs.Tables.{line_at, lines_for}
-use Rattle.mmc_sdhci.specs.declared.tables.Table.{Table}
 use Rattle.c_host.specs.Records.{block_by, command_record, heard_by, ios_record, is_busy_by, look_record, pause_record, read_by}
 use Rattle.c_host.specs.Records.{status_by, touched_by, with_record, written_by}
 use Rattle.c_host.specs.Talk.{Talk, last_answer, last_count}
@@ -66,38 +62,6 @@ TellsLook micros busy old new =
 -- the block in the Buffer Data Port is taken, and it is what came
 abbrev pub TellsPort : List ℕ → List Talk → List Talk → Type 0
 TellsPort block old new = new ≡ Came (last_count new) block ∷ old
-
--- Memory for so many blocks is wanted for DMA, to be read into or written: its bus address is what came, unless that is 0, no multiple of 4
--- or the blocks don't lie within 64 bits from there on.
-abbrev pub lent_at : ℕ → ℕ → Option ℕ
-lent_at address count =
-    if (address == 0) || (not (address % 4 == 0) || nat_le (2 ^ 64) (address + 512 * count)) then None else Some address
-
-abbrev pub TellsLending : ℕ → ℕ → Option ℕ → List Talk → List Talk → Type 0
-TellsLending operation count lent old new =
-    (new ≡ Asked (operation ∷ take 2 (to_le_bytes w64 count)) (last_answer new) ∷ old)
-    × (lent ≡ lent_at (from_le_bytes w64 (last_answer new)) count)
-
--- The lines of its table are told, one after the other, and its bus address is what came, unless that is 0, no multiple of 8 or, of a
--- table of addresses of 32 bits, beyond those.
-abbrev pub with_lines : Table → ℕ → List Talk → List Talk
-with_lines table zero past = past
-with_lines table (suc i) past =
-    Told (line_at table.is_wide table.start table.size i) ∷ with_lines table i past
-
-abbrev pub table_at : Bool → ℕ → Option ℕ
-table_at is_wide address =
-    if (address == 0) || (not (address % 8 == 0) || (not is_wide && nat_le (2 ^ 32) address)) then None else Some address
-
-abbrev pub TellsTable : Table → Option ℕ → List Talk → List Talk → Type 0
-TellsTable table place old new =
-    (new ≡ Asked (18 ∷ []) (last_answer new) ∷ with_lines table (lines_for table.size) old)
-    × (place ≡ table_at table.is_wide (from_le_bytes w64 (last_answer new)))
-
--- that the blocks are wanted that have come there, before the first of them, and these are some
-abbrev pub TellsTaking : ℕ → List ℕ → List Talk → List Talk → Type 0
-TellsTaking first bytes old new =
-    new ≡ Came (last_count new) bytes ∷ (if first == 0 then Told (16 ∷ []) ∷ old else old)
 
 abbrev pub TellsPause : ℕ → List Talk → List Talk → Type 0
 TellsPause micros old new = new ≡ Told (pause_record micros) ∷ old

@@ -1,5 +1,5 @@
 -- What C is told by a host of either kind.
-use Rattle.std.specs.Prelude.{◌∷◌, ◌≡◌, Bool, List, [], true}
+use Rattle.std.specs.Prelude.{◌≡◌, Bool, List, true}
 use Rattle.mmc_card.specs.declared.exchange.Lines.{Lines}
 use Rattle.mmc_host.specs.HostStates.{begun, micros_of, resting}
 use Rattle.mmc_host.specs.Hosts.{HostView, Where, unkept_host}
@@ -7,10 +7,9 @@ use Rattle.mmc_host.specs.declared.told.HostState.{HostState}
 use Rattle.mmc_host.specs.declared.told.Ios.{Ios}
 use Rattle.mmc_host.specs.declared.work.Work.{Work}
 use Rattle.mmc_sdhci.specs.Controller.{ControllerView}
-use Rattle.c_host.specs.Records.{lines_by}
-use Rattle.c_host.specs.Talk.{Talk, last_answer}
-use Rattle.c_host.specs.Talk.Talk.{Asked}
+use Rattle.c_host.specs.Talk.{Talk}
 use Rattle.c_host.specs.Told.{EndsWithIos, TellsIos, TellsLook}
+use Rattle.c_host.specs.declared.way.CFunctions.{CFunctions}
 use Rattle.c_host.specs.declared.way.Given.{Given}
 use Rattle.c_host.specs.declared.way.Given.TheVariants as Gives
 use Rattle.c_host.specs.declared.way.Way.{Way}
@@ -36,17 +35,18 @@ HasTold Told (Registers driver) ios = Told driver ios
 abbrev pub TellsLookFor : Work → Bool → List Talk → List Talk → Type 0
 TellsLookFor work busy old new = TellsLook (micros_of work) busy old new
 
--- C was asked for its limits, and these came
-abbrev pub HasAsked : Lines → List Talk → List Talk → Type 0
-HasAsked limits old new = (new ≡ Asked (7 ∷ []) (last_answer new) ∷ old) × (limits ≡ lines_by (last_answer new))
+-- what holds of a host that C implements, or of the driver of its registers
+abbrev pub IfHost : {H : Type 0} → Way H → (CFunctions → Type 0) → Type 0
+IfHost (Host functions) Holds = Holds functions
+IfHost (Registers driver) Holds = Unit {0}
 
-abbrev pub all_but_last : List Talk → List Talk
-all_but_last [] = []
-all_but_last (talk ∷ past) = past
+abbrev pub IfDriven : {H : Type 0} → Way H → (H → Type 0) → Type 0
+IfDriven (Host functions) Holds = Unit {0}
+IfDriven (Registers driver) Holds = Holds driver
 
 -- what holds of functions that are given, or of registers
 abbrev pub IfFunctions : {R : Type 0} → Given R → Type 0 → Type 0
-IfFunctions (Gives.Host stream) Holds = Holds
+IfFunctions (Gives.Host functions) Holds = Holds
 IfFunctions (Gives.Registers registers) Holds = Unit {0}
 
 abbrev pub IfRegisters : {R : Type 0} → Given R → (R → Type 0) → Type 0
@@ -57,24 +57,22 @@ abbrev pub IsOver : ControllerView → HostState → HostView → Type 0
 IsOver controller told host =
     Where host ((controller.is_kept ≡ true) × ((host.card ≡ controller.card) × (host.state ≡ told)))
 
--- The way that was given. By functions C was asked for its limits, and told of one line and the clock of identification; by registers
--- the host has their card, to which no command was sent.
+-- The way that was given. By functions C was told of one line and the clock of identification; by registers the host has their card, to
+-- which no command was sent.
 abbrev pub Begins : {R H : Type 0} → (R → ControllerView) → (H → HostView) → Given R → Way H → Type 0
-Begins of view (Gives.Host stream) (Host functions) =
-    TellsIos begun.ios (all_but_last functions.stream.diary.past) functions.stream.diary.past
-    × HasAsked functions.limits stream.diary.past (all_but_last functions.stream.diary.past)
+Begins of view (Gives.Host given) (Host functions) =
+    TellsIos begun.ios given.stream.diary.past functions.stream.diary.past × (functions.limits ≡ given.limits)
 Begins of view (Gives.Registers registers) (Registers driver) = IsOver (of registers) begun (view driver)
 Begins of view _ _ = ⊥
 
 -- The same without being told anything yet, between two commands on these lines.
 abbrev pub Resumes : {R H : Type 0} → (R → ControllerView) → (H → HostView) → Lines → Given R → Way H → Type 0
-Resumes of view lines (Gives.Host stream) (Host functions) =
-    HasAsked functions.limits stream.diary.past functions.stream.diary.past
+Resumes of view lines (Gives.Host given) (Host functions) = functions ≡ given
 Resumes of view lines (Gives.Registers registers) (Registers driver) =
     IsOver (of registers) (resting lines) (view driver)
 Resumes of view lines _ _ = ⊥
 
--- by functions these are the limits that came
+-- by functions these are its limits
 abbrev pub HasLimits : {H : Type 0} → Way H → Lines → Type 0
 HasLimits (Host functions) limits = limits ≡ functions.limits
 HasLimits (Registers driver) limits = Unit {0}

@@ -5,6 +5,8 @@
 #![tactic(auto)]
 
 mod diary;
+mod given;
+mod lending;
 mod lent;
 mod records;
 mod registers;
@@ -12,6 +14,8 @@ mod stream;
 mod way;
 
 pub use diary::{Call, Diary, Note};
+pub use given::{WayRecord, given_by};
+pub use lending::Lent;
 pub use lent::{Sectors, SectorsMut};
 pub use registers::CRegisters;
 pub use stream::Stream;

@@ -1,15 +1,16 @@
 // The records that go to C, by their first bytes, and what its answers mean. Numbers are little endian.
-ghost use Rattle.std.specs.Prelude.{◌≡◌, ◌≤◌, length, true, ℕ};
+ghost use Rattle.std.specs.Prelude.{◌≡◌, true, ℕ};
 ghost use Rattle.std.specs.Int.{from_le_bytes};
 ghost use Rattle.c_host.specs.Records.{command_record, count_number, data_number, failed_by, fault_by, good_by};
 ghost use Rattle.c_host.specs.Records.{heard_by, heard_in, ios_record, is_word, length_number, lines_number, moved_by};
-ghost use Rattle.c_host.specs.Records.{refused_by, response_number, timing_number, touched_by};
-ghost use Rattle.c_host.specs.Told.{lent_at, table_at};
+ghost use Rattle.c_host.specs.Records.{refused_by, register_in, response_number, timing_number, touched_by};
+ghost use Rattle.c_host.specs.Lending.{back_record, lending_record, lent_at, table_at};
 ghost use Rattle.mmc_sdhci.specs.Lending.{Fits, FitsTable};
 ghost use Rattle.mmc_card.specs.CardAnswer.{Silent};
 ghost use Rattle.mmc_host.specs.Hosts.{answer_heard};
 ghost use Rattle.mmc_card.specs.declared.response.Response.TheVariants.{R1};
 
+use crate::lending::Lent;
 use mmc_bus::Moved;
 use mmc_card::{DataIn, DataOut, Timing, Width};
 use mmc_host::{Data, Heard, HostCommand, Ios, Response, ResponseFault};
@@ -26,9 +27,6 @@ const SET_IOS: u8 = 5;
 /// So many microseconds pass.
 pub const PAUSE: u8 = 6;
 
-/// What lines and timing the host has is asked.
-pub const LIMITS: u8 = 7;
-
 /// A register is read.
 pub const READ_REGISTER: u8 = 8;
 
@@ -41,17 +39,11 @@ pub const READ_WITH: u8 = 10;
 /// A command goes out, and the blocks after it are written.
 pub const WRITE_WITH: u8 = 11;
 
-/// Memory is wanted for DMA, to be read into.
-pub const LEND_ROOM: u8 = 14;
+// Memory is wanted for DMA.
+const LEND: u8 = 14;
 
-/// The same to be written.
-pub const LEND_BLOCKS: u8 = 15;
-
-/// What has come into the room that was lent is wanted.
-pub const TAKE_PLACES: u8 = 16;
-
-/// What was lent is taken back.
-pub const TAKE_BACK: u8 = 17;
+// What was lent is taken back.
+const TAKE_BACK: u8 = 17;
 
 /// The table of the lines that were told is wanted where the controller can read it.
 pub const LEND_TABLE: u8 = 18;
@@ -85,7 +77,7 @@ fn data_numbers(transfer: Data) -> (u8, u16, u16)
 }
 
 // Why no response was heard.
-fn fault_of(number: u8) -> ResponseFault
+fn fault_of(number: u32) -> ResponseFault
     ensures { result ≡ fault_by number }
 {
     match number {
@@ -96,29 +88,38 @@ fn fault_of(number: u8) -> ResponseFault
     }
 }
 
-// What was heard, by these bytes: bits 127 to 8 of a register, the highest byte first, or a word.
-fn heard_in(response: Response, bytes: [u8; 15]) -> Heard
-    ensures { result ≡ heard_in response bytes }
+/// An answer to a command: four words of its response, how many blocks were good, what became of one that failed, and why no response was
+/// heard.
+pub type Answer = [u8; 23];
+
+// Bits 127 to 8 of a register, the highest byte first.
+fn register_in(answer: &Answer) -> [u8; 15]
+    ensures { result ≡ register_in answer.now }
 {
-    let [a, b, c, d, ..] = bytes;
+    [
+        answer[3], answer[2], answer[1], answer[0], answer[7], answer[6], answer[5], answer[4],
+        answer[11], answer[10], answer[9], answer[8], answer[15], answer[14], answer[13],
+    ]
+}
+
+// What was heard.
+fn heard_in(response: Response, answer: &Answer) -> Heard
+    ensures { result ≡ heard_in response answer.now }
+{
     match response {
         Response::Nothing => Heard::Nothing,
-        Response::R2 => Heard::Register(bytes),
-        _ => Heard::Word(u32::from_le_bytes([a, b, c, d])),
+        Response::R2 => Heard::Register(register_in(answer)),
+        _ => Heard::Word(u32::from_le_bytes([answer[0], answer[1], answer[2], answer[3]])),
     }
 }
 
-/// What was heard, or why nothing was, by the bytes after which the fault stands.
-pub fn heard_by(response: Response, answer: &[u8]) -> Result<Heard, ResponseFault>
-    requires { 16 ≤ length answer.now }
+/// What was heard, or why nothing was.
+pub fn heard_by(response: Response, answer: &Answer) -> Result<Heard, ResponseFault>
     ensures { result ≡ heard_by response answer.now }
 {
-    if answer[15] == 0 {
-        let mut bytes = [0; 15];
-        bytes.copy_from_slice(&answer[..15]);
-        Ok(heard_in(response, bytes))
-    } else {
-        Err(fault_of(answer[15]))
+    match u32::from_le_bytes([answer[19], answer[20], answer[21], answer[22]]) {
+        0 => Ok(heard_in(response, answer)),
+        fault => Err(fault_of(fault)),
     }
 }
 
@@ -199,7 +200,7 @@ pub fn is_word(heard: Result<Heard, ResponseFault>) -> bool
 }
 
 /// How many blocks C says were good.
-pub fn good_by(answer: &[u8; 19]) -> usize
+pub fn good_by(answer: &Answer) -> usize
     ensures { result ≡ good_by answer.now }
 {
     usize::from(u16::from_le_bytes([answer[16], answer[17]]))
@@ -263,4 +264,21 @@ pub fn ios_record(ios: Ios) -> [u8; 7]
         c,
         d,
     ]
+}
+
+/// The record that asks for memory for so many blocks, to be written to or read.
+pub fn lending_record(is_room: bool, count: usize) -> [u8; 4]
+    ensures { result ≡ lending_record is_room count }
+{
+    let [a, b, ..] = count.to_le_bytes();
+    [LEND, u8::from(is_room), a, b]
+}
+
+/// The record that what was lent is taken back.
+pub fn back_record(lent: Lent) -> [u8; 6]
+    ensures { result ≡ back_record lent }
+{
+    let [a, b] = lent.count;
+    let [c, d] = lent.table.to_le_bytes();
+    [TAKE_BACK, u8::from(lent.is_room), a, b, c, d]
 }

@@ -1,5 +1,5 @@
-ghost use Rattle.std.specs.Prelude.{◌%◌, ◌∷◌, ◌≡◌, [], length};
-ghost use Rattle.std.specs.Int.{from_le_bytes, to_le_bytes, w32};
+// Registers of an SD host controller that C reads and writes.
+ghost use Rattle.std.specs.Prelude.{◌≡◌, ◌∷◌, None, length, false, true};
 ghost use Rattle.mmc_sdhci.specs.Accesses.{Passes, Reads, Reads8, Writes, Writes8};
 ghost use Rattle.mmc_sdhci.specs.Beside.{untold};
 ghost use Rattle.mmc_sdhci.specs.Driver.{unkept_controller};
@@ -7,20 +7,109 @@ ghost use Rattle.mmc_sdhci.specs.Controller.{Settled};
 ghost use Rattle.mmc_sdhci.specs.Lending.{Fits, FitsTable, Lends, LendsTable, TakesPlace, TakesPlaces, unlent};
 ghost use Rattle.mmc_sdhci.specs.Lent.{Room, ToGo};
 ghost use Rattle.mmc_sdhci.specs.Moving.{Puts, Takes};
-ghost use Rattle.c_host.specs.Talk.Talk.{Asked, Told};
-ghost use Rattle.c_host.specs.Talk.{last_answer};
-ghost use Rattle.c_host.specs.Told.{TellsLending, TellsPause, TellsPort, TellsTable, TellsTaking};
+ghost use Rattle.c_host.specs.Talk.Talk.{Told};
+ghost use Rattle.c_host.specs.Lending.{TellsLending, TellsTable, TellsTaking, size_of_table, taken_back};
+ghost use Rattle.c_host.specs.Registers.{Goes, ReadsByte, ReadsWord, WritesByte};
+ghost use Rattle.c_host.specs.Told.{TellsPause, TellsPort};
 
-use crate::records::{LEND_BLOCKS, LEND_ROOM};
+use crate::lending::Lent;
+use crate::records::{lent_at, table_at};
 use crate::stream::Stream;
 use mmc_bus::Blocks;
-use mmc_sdhci::{Registers, Table};
+use mmc_sdhci::{POWER, Registers, Table};
+use sdhci_board::{Known, byte_in, with_byte, word_at};
 
 /// Registers of an SD host controller that C reads and writes.
 #[derive(Drop)]
 pub struct CRegisters {
     /// Where C is told.
     pub stream: Stream,
+    /// What the board knows in place of the controller.
+    pub known: Known,
+    /// Whether the controller takes accesses of whole words alone.
+    pub is_by_words: bool,
+    /// Whether C lends memory for DMA at all.
+    pub lends: bool,
+    /// How many bytes a table may have.
+    pub room: u16,
+    /// What is lent.
+    pub lent: Option<Lent>,
+}
+
+// How many bytes a table has.
+fn size_of_table(table: &Table) -> u16
+    ensures { result ≡ size_of_table table.now }
+{
+    let line = if table.is_wide() { 12 } else { 8 };
+    line * table.len() as u16
+}
+
+impl CRegisters {
+    // Takes back what is lent, if anything is.
+    fn give_back(&mut self)
+        ensures told { self.new.stream.diary.past ≡ taken_back self.old.lent self.old.stream.diary.past }
+        ensures same { self.new ≡ record self.old { stream = self.new.stream; lent = None } }
+        ensures number { self.new.stream.number ≡ self.old.stream.number }
+    {
+        if let Some(lent) = self.lent {
+            self.stream.take_back(lent);
+            self.lent = None;
+        }
+    }
+
+    // Asks for memory for so many blocks, where C lends any. What can't be used is taken back at once.
+    fn lend(&mut self, is_room: bool, count: usize) -> Option<u64>
+        ensures tells { TellsLending is_room count self.old result self.new }
+        ensures fits { Fits result count }
+        ensures same { self.new ≡ record self.old { stream = self.new.stream; lent = self.new.lent } }
+    {
+        if !self.lends {
+            return None;
+        }
+        self.give_back();
+        let address = self.stream.lend(is_room, count);
+        if address != 0 {
+            let [a, b, ..] = count.to_le_bytes();
+            self.lent = Some(Lent {
+                is_room,
+                count: [a, b],
+                table: 0,
+            });
+        }
+        let place = lent_at(address, count);
+        if place.is_none() {
+            self.give_back();
+        }
+        place
+    }
+
+    // Reads a byte by its word.
+    #[inline(never)]
+    fn read_in_word(&mut self, offset: u8) -> u8
+        ensures told { ReadsByte true self.old.known offset result self.old.stream.diary.past self.new.stream.diary.past }
+        ensures same { self.new ≡ record self.old { stream = self.new.stream } }
+    {
+        byte_in(offset, self.read32(word_at(offset)))
+    }
+
+    // Writes it so: the bytes beside it stay.
+    #[inline(never)]
+    fn write_in_word(&mut self, offset: u8, value: u8)
+        ensures told { WritesByte true offset value self.old.stream.diary.past self.new.stream.diary.past }
+        ensures same { self.new ≡ record self.old { stream = self.new.stream } }
+    {
+        let at = word_at(offset);
+        let word = self.stream.read_register(4, at);
+        self.stream
+            .write_register(4, at, with_byte(offset, word, value));
+    }
+
+    /// Takes the card's power (section 2.2.11).
+    pub fn switch_off(&mut self)
+        ensures { WritesByte self.old.is_by_words 0x29 0 self.old.stream.diary.past self.new.stream.diary.past }
+    {
+        self.write8(POWER, 0);
+    }
 }
 
 impl Registers for CRegisters {
@@ -31,39 +120,50 @@ impl Registers for CRegisters {
 
     fn read32(&mut self, offset: u8) -> u32
         ensures reads { Reads unkept_controller offset result unkept_controller }
-        ensures told { let past = self.new.stream.diary.past in
-            past ≡ Asked (8 ∷ 4 ∷ offset ∷ []) (last_answer past) ∷ self.old.stream.diary.past }
-        ensures read { result ≡ from_le_bytes w32 (last_answer self.new.stream.diary.past) }
+        ensures told { ReadsWord self.old.known offset result self.old.stream.diary.past self.new.stream.diary.past }
+        ensures same { self.new ≡ record self.old { stream = self.new.stream } }
     {
-        self.stream.read_register(4, offset)
+        self.known
+            .shown(offset, self.stream.read_register(4, offset))
     }
 
     fn write32(&mut self, offset: u8, value: u32)
         ensures writes { Writes unkept_controller offset value unkept_controller }
-        ensures told { self.new.stream.diary.past ≡ Told (9 ∷ 4 ∷ offset ∷ to_le_bytes w32 value) ∷ self.old.stream.diary.past }
+        ensures told { Goes 4 offset value self.old.stream.diary.past self.new.stream.diary.past }
+        ensures same { self.new ≡ record self.old { stream = self.new.stream } }
     {
         self.stream.write_register(4, offset, value);
     }
 
     fn read8(&mut self, offset: u8) -> u8
         ensures reads { Reads8 unkept_controller offset result unkept_controller }
-        ensures told { let past = self.new.stream.diary.past in
-            past ≡ Asked (8 ∷ 1 ∷ offset ∷ []) (last_answer past) ∷ self.old.stream.diary.past }
-        ensures read { result ≡ from_le_bytes w32 (last_answer self.new.stream.diary.past) % 256 }
+        ensures told { ReadsByte self.old.is_by_words self.old.known offset result self.old.stream.diary.past
+            self.new.stream.diary.past }
+        ensures same { self.new ≡ record self.old { stream = self.new.stream } }
     {
-        (self.stream.read_register(1, offset) % 256) as u8
+        if self.is_by_words {
+            self.read_in_word(offset)
+        } else {
+            (self.stream.read_register(1, offset) % 256) as u8
+        }
     }
 
     fn write8(&mut self, offset: u8, value: u8)
         ensures writes { Writes8 unkept_controller offset value unkept_controller }
-        ensures told { self.new.stream.diary.past ≡ Told (9 ∷ 1 ∷ offset ∷ to_le_bytes w32 value) ∷ self.old.stream.diary.past }
+        ensures told { WritesByte self.old.is_by_words offset value self.old.stream.diary.past self.new.stream.diary.past }
+        ensures same { self.new ≡ record self.old { stream = self.new.stream } }
     {
-        self.stream.write_register(1, offset, u32::from(value));
+        if self.is_by_words {
+            self.write_in_word(offset, value);
+        } else {
+            self.stream.write_register(1, offset, u32::from(value));
+        }
     }
 
     fn read_port(&mut self, block: &mut [u8])
         ensures takes { Takes unkept_controller block.new unkept_controller }
         ensures told { TellsPort block.new self.old.stream.diary.past self.new.stream.diary.past }
+        ensures same { self.new ≡ record self.old { stream = self.new.stream } }
     {
         self.stream.read_port(block);
     }
@@ -71,6 +171,7 @@ impl Registers for CRegisters {
     fn write_port(&mut self, block: &[u8; 512])
         ensures puts { Puts unkept_controller block.now unkept_controller }
         ensures told { self.new.stream.diary.past ≡ Told block.now ∷ self.old.stream.diary.past }
+        ensures same { self.new ≡ record self.old { stream = self.new.stream } }
     {
         self.stream.write_port(block);
     }
@@ -78,53 +179,70 @@ impl Registers for CRegisters {
     fn lend_room(&mut self, count: usize) -> Option<u64>
         ensures lends { Lends unkept_controller (Room count) result unkept_controller }
         ensures fits { Fits result count }
-        ensures told { TellsLending 14 count result self.old.stream.diary.past self.new.stream.diary.past }
+        ensures told { TellsLending true count self.old result self.new }
     {
-        self.stream.lend(LEND_ROOM, count)
+        self.lend(true, count)
     }
 
     fn lend_blocks<D: Blocks>(&mut self, blocks: &D) -> Option<u64>
         ensures lends { Lends unkept_controller (ToGo (D.blocks blocks.now)) result unkept_controller }
         ensures fits { Fits result (length (D.blocks blocks.now)) }
-        ensures told { TellsLending 15 (length (D.blocks blocks.now)) result self.old.stream.diary.past self.new.stream.diary.past }
+        ensures told { TellsLending false (length (D.blocks blocks.now)) self.old result self.new }
     {
-        self.stream.lend(LEND_BLOCKS, blocks.len())
+        self.lend(false, blocks.len())
     }
 
+    // A table for which C has no room isn't told.
     fn lend_table(&mut self, table: &Table) -> Option<u64>
         ensures lends { LendsTable unkept_controller table.now.is_wide result unkept_controller }
         ensures fits { FitsTable table.now.is_wide result }
-        ensures told { TellsTable table.now result self.old.stream.diary.past self.new.stream.diary.past }
+        ensures told { TellsTable table.now self.old result self.new }
     {
-        self.stream.lend_table(table)
+        let size = size_of_table(table);
+        if size > self.room {
+            return None;
+        }
+        let address = self.stream.lend_table(table);
+        if let Some(lent) = &mut self.lent
+            && address != 0
+        {
+            lent.table = size;
+        }
+        table_at(table.is_wide(), address)
     }
 
     fn take_place(&mut self, index: usize, block: &mut [u8; 512])
         ensures takes { TakesPlace unkept_controller index block.new unkept_controller }
         ensures whole { length block.new ≡ 512 }
-        ensures told { TellsTaking index block.new self.old.stream.diary.past self.new.stream.diary.past }
+        ensures told { TellsTaking block.new self.old self.new }
     {
-        self.stream.take_places(index, block);
+        let _ = index;
+        self.give_back();
+        self.stream.take_places(block);
     }
 
     fn take_places(&mut self, index: usize, blocks: &mut [u8])
         ensures takes { TakesPlaces unkept_controller index blocks.new unkept_controller }
         ensures whole { length blocks.new ≡ length blocks.old }
-        ensures told { TellsTaking index blocks.new self.old.stream.diary.past self.new.stream.diary.past }
+        ensures told { TellsTaking blocks.new self.old self.new }
     {
-        self.stream.take_places(index, blocks);
+        let _ = index;
+        self.give_back();
+        self.stream.take_places(blocks);
     }
 
     fn take_back(&mut self)
         ensures back { Settled unkept_controller (unkept_controller ≡ unlent unkept_controller) unkept_controller }
-        ensures told { self.new.stream.diary.past ≡ Told (17 ∷ []) ∷ self.old.stream.diary.past }
+        ensures told { self.new.stream.diary.past ≡ taken_back self.old.lent self.old.stream.diary.past }
+        ensures lent { self.new.lent ≡ None }
     {
-        self.stream.take_back();
+        self.give_back();
     }
 
     fn pause(&mut self, micros: u32)
         ensures passes { Passes unkept_controller micros unkept_controller }
         ensures told { TellsPause micros self.old.stream.diary.past self.new.stream.diary.past }
+        ensures same { self.new ≡ record self.old { stream = self.new.stream } }
     {
         self.stream.pause(micros);
     }

@@ -1,28 +1,29 @@
 // A stream with a number: records go to C, and answers come from it. A block goes and comes as it is: no record has its length.
 // `c/kelifandro.c` has the other end.
 ghost use Rattle.std.specs.Prelude.{◌≡◌, ◌∷◌, [], length};
-ghost use Rattle.std.specs.Int.{from_le_bytes, to_le_bytes, w32};
+ghost use Rattle.std.specs.Int.{from_le_bytes, to_le_bytes, w32, w64};
 ghost use Rattle.c_host.specs.Talk.Talk.{Asked, Came, Told};
 ghost use Rattle.c_host.specs.Talk.{last_answer};
 ghost use Rattle.c_host.specs.Records.{command_record, failed_by, good_by};
-ghost use Rattle.c_host.specs.Records.{heard_by, ios_record, is_word, lines_by, moved_by};
+ghost use Rattle.c_host.specs.Records.{heard_by, ios_record, is_word, moved_by};
 ghost use Rattle.c_host.specs.Records.{refused_by, touched_by, with_record};
-ghost use Rattle.c_host.specs.Told.{TellsCommand, TellsIos, TellsLending, TellsLook, TellsPause, TellsPort, TellsRead, TellsReadWith};
-ghost use Rattle.c_host.specs.Told.{TellsTable, TellsTaking, TellsWrite, TellsWriteWith};
-ghost use Rattle.mmc_sdhci.specs.Lending.{Fits, FitsTable};
-ghost use Rattle.mmc_sdhci.specs.Tables.{bytes_of};
+ghost use Rattle.c_host.specs.Told.{TellsCommand, TellsIos, TellsLook, TellsPause, TellsPort, TellsRead, TellsReadWith, TellsWrite};
+ghost use Rattle.c_host.specs.Told.{TellsWriteWith};
+ghost use Rattle.c_host.specs.Lending.{back_record, lending_record, with_lines};
+ghost use Rattle.mmc_sdhci.specs.Tables.{bytes_of, lines_for};
 ghost use Rattle.mmc_host.specs.Hosts.{unkept_host};
 ghost use Rattle.mmc_host.specs.Together.{ReadsWith, WritesWith};
 ghost use Rattle.mmc_card.specs.declared.response.Response.TheVariants.{R1};
 
 use crate::diary::{Call, Diary, Note};
+use crate::lending::Lent;
 use crate::records::{
-    LEND_TABLE, LIMITS, LOOK, PAUSE, READ_REGISTER, READ_WITH, TAKE_BACK, TAKE_PLACES,
-    WRITE_REGISTER, WRITE_WITH, command_record, failed_by, good_by, heard_by, ios_record, is_word,
-    lent_at, moved_by, refused_by, table_at, touched_by,
+    Answer, LEND_TABLE, LOOK, PAUSE, READ_REGISTER, READ_WITH, WRITE_REGISTER, WRITE_WITH,
+    back_record, command_record, failed_by, good_by, heard_by, ios_record, is_word, lending_record,
+    moved_by, refused_by, touched_by,
 };
 use mmc_bus::{BlocksMut, Moved};
-use mmc_card::{DataIn, DataOut, Lines, Timing, Width};
+use mmc_card::{DataIn, DataOut};
 use mmc_host::{Data, Heard, HostCommand, Ios, Response, ResponseFault};
 use mmc_sdhci::{Line, Table};
 
@@ -92,7 +93,7 @@ impl Stream {
         ensures told { TellsCommand command result self.old.diary.past self.new.diary.past }
         ensures same { self.new.number ≡ self.old.number }
     {
-        let mut answer = [0; 16];
+        let mut answer = [0; 23];
         self.ask(&command_record(command), &mut answer);
         heard_by(command.response, &answer)
     }
@@ -149,13 +150,13 @@ impl Stream {
 
     // Sends a command with so many blocks after it, and takes the answer: of its response, how many blocks C moved, and what became of
     // one that failed.
-    fn send_with(&mut self, operation: u8, command: HostCommand, count: usize) -> [u8; 19]
+    fn send_with(&mut self, operation: u8, command: HostCommand, count: usize) -> Answer
         ensures told { self.new.diary.past ≡ Asked (with_record operation command count) result ∷ self.old.diary.past }
         ensures same { self.new.number ≡ self.old.number }
     {
         let [_, index, response, direction, a, b, c, d, e, f, g, h] = command_record(command);
         let [i, j, ..] = count.to_le_bytes();
-        let mut answer = [0; 19];
+        let mut answer = [0; 23];
         self.ask(
             &[
                 operation, index, response, direction, a, b, c, d, e, f, g, h, i, j,
@@ -223,30 +224,6 @@ impl Stream {
         self.tell(&[PAUSE, a, b, c, d]);
     }
 
-    /// The most lines and the fastest timing; one line at default speed where C says nothing.
-    pub fn limits(&mut self) -> Lines
-        ensures told { let past = self.new.diary.past in
-            past ≡ Asked (7 ∷ []) (last_answer past) ∷ self.old.diary.past }
-        ensures limits { result ≡ lines_by (last_answer self.new.diary.past) }
-        ensures same { self.new.number ≡ self.old.number }
-    {
-        let mut answer = [0; 2];
-        self.ask(&[LIMITS], &mut answer);
-        let [lines, high] = answer;
-        Lines {
-            width: match lines {
-                8 => Width::Eight,
-                4 => Width::Four,
-                _ => Width::One,
-            },
-            timing: if high == 0 {
-                Timing::Default
-            } else {
-                Timing::High
-            },
-        }
-    }
-
     /// Reads a register of so many bytes, 1 or 4.
     pub fn read_register(&mut self, size: u8, offset: u8) -> u32
         ensures told { let past = self.new.diary.past in
@@ -277,16 +254,16 @@ impl Stream {
         let _ = self.take(block);
     }
 
-    /// Asks for memory for so many blocks by `LEND_ROOM` or `LEND_BLOCKS`, and tells its bus address.
-    pub fn lend(&mut self, operation: u8, count: usize) -> Option<u64>
-        ensures tells { TellsLending operation count result self.old.diary.past self.new.diary.past }
-        ensures fits { Fits result count }
+    /// Asks for memory for so many blocks, to be written to or read, and tells its bus address, 0 where there is none.
+    pub fn lend(&mut self, is_room: bool, count: usize) -> u64
+        ensures told { let past = self.new.diary.past in
+            past ≡ Asked (lending_record is_room count) (last_answer past) ∷ self.old.diary.past }
+        ensures address { result ≡ from_le_bytes w64 (last_answer self.new.diary.past) }
         ensures same { self.new.number ≡ self.old.number }
     {
-        let [a, b, ..] = count.to_le_bytes();
         let mut answer = [0; 8];
-        self.ask(&[operation, a, b], &mut answer);
-        lent_at(u64::from_le_bytes(answer), count)
+        self.ask(&lending_record(is_room, count), &mut answer);
+        u64::from_le_bytes(answer)
     }
 
     // Tells a line of a table, as it is: no record begins with its attributes.
@@ -300,10 +277,11 @@ impl Stream {
         }
     }
 
-    /// Lends a descriptor table, and tells its bus address.
-    pub fn lend_table(&mut self, table: &Table) -> Option<u64>
-        ensures tells { TellsTable table.now result self.old.diary.past self.new.diary.past }
-        ensures fits { FitsTable table.now.is_wide result }
+    /// Tells the lines of a descriptor table, asks for its memory, and tells its bus address, 0 where there is none.
+    pub fn lend_table(&mut self, table: &Table) -> u64
+        ensures told { let past = self.new.diary.past in
+            past ≡ Asked (18 ∷ []) (last_answer past) ∷ with_lines table.now (lines_for table.now.size) self.old.diary.past }
+        ensures address { result ≡ from_le_bytes w64 (last_answer self.new.diary.past) }
         ensures same { self.new.number ≡ self.old.number }
     {
         for i in 0..table.len() {
@@ -311,27 +289,24 @@ impl Stream {
         }
         let mut answer = [0; 8];
         self.ask(&[LEND_TABLE], &mut answer);
-        table_at(table.is_wide(), u64::from_le_bytes(answer))
+        u64::from_le_bytes(answer)
     }
 
-    /// Takes blocks that have come into memory that was lent, from this one on.
-    pub fn take_places(&mut self, index: usize, blocks: &mut [u8])
-        ensures tells { TellsTaking index blocks.new self.old.diary.past self.new.diary.past }
+    /// Tells that this is taken back, which was lent.
+    pub fn take_back(&mut self, lent: Lent)
+        ensures told { self.new.diary.past ≡ Told (back_record lent) ∷ self.old.diary.past }
+        ensures same { self.new.number ≡ self.old.number }
+    {
+        self.tell(&back_record(lent));
+    }
+
+    /// Takes blocks that have come into their places, which were lent.
+    pub fn take_places(&mut self, blocks: &mut [u8])
+        ensures tells { TellsPort blocks.new self.old.diary.past self.new.diary.past }
         ensures length { length blocks.new ≡ length blocks.old }
         ensures same { self.new.number ≡ self.old.number }
     {
-        if index == 0 {
-            self.tell(&[TAKE_PLACES]);
-        }
         let _ = self.take(blocks);
-    }
-
-    /// Takes back what was lent.
-    pub fn take_back(&mut self)
-        ensures told { self.new.diary.past ≡ Told (17 ∷ []) ∷ self.old.diary.past }
-        ensures same { self.new.number ≡ self.old.number }
-    {
-        self.tell(&[TAKE_BACK]);
     }
 
     /// Writes a block to the Buffer Data Port.

@@ -9,8 +9,9 @@ ghost use Rattle.mmc_sdhci.specs.Controller.{IsAtMost, lines_in};
 ghost use Rattle.mmc_sdhci.specs.Driver.{IsNew, IsReady, speed_limit};
 ghost use Rattle.mmc_sdhci.specs.Moving.{WhereKept};
 ghost use Rattle.c_host.specs.Told.{TellsCommand, TellsIos, TellsPause, TellsRead, TellsReadWith, TellsWrite, TellsWriteWith};
-ghost use Rattle.c_host.specs.Ways.{Begins, HasLimits, HasTold, IfFunctions, IfRegisters, Resumes, Speaks, TellsLookFor};
-ghost use Rattle.c_host.specs.Ways.{view_of};
+ghost use Rattle.c_host.specs.Ways.{Begins, HasLimits, HasTold, IfDriven, IfFunctions, IfHost, IfRegisters, Resumes, Speaks};
+ghost use Rattle.c_host.specs.Ways.{TellsLookFor, view_of};
+ghost use Rattle.c_host.specs.declared.way.Way.TheVariants.{Host};
 
 use crate::registers::CRegisters;
 use crate::stream::Stream;
@@ -22,8 +23,8 @@ use mmc_sdhci::{Registers, Sdhci, StartFault};
 /// What C gives.
 #[derive(Drop)]
 pub enum Given<R> {
-    /// A host, which is told of decoded commands over this stream.
-    Host(Stream),
+    /// A host, which is told of decoded commands.
+    Host(CFunctions),
     /// The registers of an SD host controller.
     Registers(R),
 }
@@ -33,7 +34,7 @@ pub enum Given<R> {
 pub struct CFunctions {
     /// Where they are told.
     pub stream: Stream,
-    /// The most lines and the fastest timing, asked once.
+    /// The most lines and the fastest timing.
     pub limits: Lines,
 }
 
@@ -63,15 +64,14 @@ impl<R: Registers + Drop> Way<Sdhci<R>> {
         ensures functions { IfFunctions given (IsOk result) }
     {
         match given {
-            Given::Host(stream) => {
-                let mut stream = stream;
-                let limits = stream.limits();
-                stream.set_ios(Ios {
+            Given::Host(functions) => {
+                let mut functions = functions;
+                functions.stream.set_ios(Ios {
                     width: Width::One,
                     timing: Timing::Default,
                     is_identifying: true,
                 });
-                Ok(Way::Host(CFunctions { stream, limits }))
+                Ok(Way::Host(functions))
             }
             Given::Registers(registers) => match Sdhci::new(registers) {
                 Ok(driver) => Ok(Way::Registers(driver)),
@@ -96,15 +96,22 @@ impl<R: Registers + Drop> Way<Sdhci<R>> {
         ensures functions { IfFunctions given (IsOk result) }
     {
         match given {
-            Given::Host(stream) => {
-                let mut stream = stream;
-                let limits = stream.limits();
-                Ok(Way::Host(CFunctions { stream, limits }))
-            }
+            Given::Host(functions) => Ok(Way::Host(functions)),
             Given::Registers(registers) => match Sdhci::resume(registers, lines) {
                 Ok(driver) => Ok(Way::Registers(driver)),
                 Err((_, fault)) => Err(fault),
             },
+        }
+    }
+
+    /// Leaves nothing under way where something has failed, so that `resume` can go on. Functions are told nothing: what they were told
+    /// to do has ended.
+    pub fn stop(&mut self)
+        ensures functions { IfHost self.old (λ functions. self.new ≡ Host functions) }
+        ensures ready { IfDriven self.new (λ driver. IsReady (R.view driver.registers)) }
+    {
+        if let Way::Registers(driver) = self {
+            driver.stop();
         }
     }
 }

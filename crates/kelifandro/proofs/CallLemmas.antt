@@ -6,7 +6,7 @@ use Rattle.c_host.specs.declared.lent.SectorsMut.{SectorsMut}
 use Rattle.mmc_bus.specs.declared.cause.Cause.{Cause}
 use Rattle.mmc_bus.specs.declared.cause.Cause.TheVariants.{Answer, Busy, Data, Recovery, Status}
 use Rattle.mmc_bus.specs.Lending.{IsRewritten, block, nothing}
-use Rattle.mmc_calls.specs.Noted.{IsCounted, Notes, lines_in}
+use Rattle.mmc_direct.specs.Noted.{IsCounted, Notes, lines_in}
 use Rattle.mmc_card.specs.declared.exchange.Lines.{Lines}
 use Rattle.mmc_card.specs.declared.part.Part.{Part}
 use Rattle.mmc_direct.specs.Served.{IfRefused, IfServed, refusal_in}

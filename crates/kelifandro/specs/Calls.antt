@@ -1,10 +1,6 @@
 -- What a call begins with, and what becomes of it.
 use Rattle.std.specs.Prelude.{◌&&◌, ◌==◌, ◌≡◌, [], Bool, None, Option, Result, Some, nat_lt, negsuc, pos, true, ℕ, ℤ}
-use Rattle.c_host.specs.declared.registers.CRegisters.{CRegisters}
-use Rattle.c_host.specs.declared.stream.Stream.{Stream}
-use Rattle.c_host.specs.declared.way.Given.{Given}
-use Rattle.c_host.specs.declared.way.Given.TheVariants.{Host, Registers}
-use Rattle.mmc_calls.specs.Noted.{IsCounted, lines_in}
+use Rattle.mmc_direct.specs.Noted.{IsCounted, lines_in}
 use Rattle.mmc_card.specs.declared.exchange.Lines.{Lines}
 use Rattle.mmc_card.specs.declared.part.Part.{Part}
 use Rattle.mmc_direct.specs.declared.refused.NotDone.{NotDone}
@@ -22,15 +18,6 @@ use Rattle.kelifandro.specs.Answers.{answer_number, refused_number}
 -- the card stands as was noted
 abbrev pub IsAsNoted : Stands → CardRecord → Type 0
 IsAsNoted stands note = (noted : Stands) → IsNoteOf noted note → stands ≡ noted
-
--- the stream with this number, over which C was told nothing yet
-abbrev pub IsNew : ℤ → Stream → Type 0
-IsNew number stream = (stream.number ≡ number) × (stream.diary.past ≡ [])
-
--- 0 is a host, anything else registers, over this stream
-abbrev pub IsGiven : ℤ → ℕ → Given CRegisters → Type 0
-IsGiven number way (Host stream) = (way ≡ 0) × IsNew number stream
-IsGiven number way (Registers registers) = (way ≡ 0 → ⊥) × IsNew number registers.stream
 
 -- where a card is noted, this holds of how it stands
 abbrev pub IfNoted : CardRecord → (Stands → Type 0) → Type 0

@@ -2,31 +2,19 @@
 ghost use Rattle.std.specs.Prelude.{◌≡◌, [], Err, IfErr, IfOk, IsOk, false, pos};
 ghost use Rattle.mmc_record.specs.Note.{is_note};
 ghost use Rattle.mmc_host.specs.HostStates.{resting};
-ghost use Rattle.mmc_calls.specs.Noted.{lines_in};
+ghost use Rattle.mmc_direct.specs.Noted.{lines_in};
 ghost use Rattle.kelifandro.specs.Answers.{minus};
-ghost use Rattle.kelifandro.specs.Calls.{IfNoted, IsAsNoted, IsGiven, is_attempted};
+ghost use Rattle.kelifandro.specs.Calls.{IfNoted, IsAsNoted, is_attempted};
 
 use crate::answers::{NOT_OPEN, start_number};
-use c_host::{CRegisters, CWay, Given, Stream, Way};
+use c_host::{CWay, Way, WayRecord, given_by};
 use mmc_bus::Lines;
-use mmc_calls::stands_by;
-use mmc_direct::Stands;
+use mmc_direct::{Stands, stands_by};
 use mmc_record::CardRecord;
 use mmc_story::{HasStory, StoryHost};
 
 /// A host of C's, with a diary that begins with a call.
 pub type CHost<S> = StoryHost<CWay, S>;
-
-/// What C gives over the stream with this number: by way 0 a host, by any other registers.
-pub fn given_of(number: i32, way: u8) -> Given<CRegisters>
-    ensures { IsGiven number way result }
-{
-    let stream = Stream::new(number);
-    match way {
-        0 => Given::Host(stream),
-        _ => Given::Registers(CRegisters { stream }),
-    }
-}
 
 /// How the card of a record stands, and the host that it is behind. The host has a diary that begins with this call.
 ///
@@ -34,7 +22,7 @@ pub fn given_of(number: i32, way: u8) -> Given<CRegisters>
 /// The number of what is wrong.
 pub fn go_back<S: HasStory>(
     stream: i32,
-    way: u8,
+    way: &WayRecord,
     card: &CardRecord,
 ) -> Result<(Stands, CHost<S>), i32>
     ensures stands { IfOk result (λ r. IsAsNoted r.0 card.now) }
@@ -43,7 +31,7 @@ pub fn go_back<S: HasStory>(
     ensures not_open { is_note card.now ≡ false → result ≡ Err (minus 1) }
     ensures fault { IfErr result (λ number. number ≡ pos 0 → ⊥) }
     ensures unmade { IfErr result (λ number. is_attempted number ≡ false) }
-    ensures functions { way ≡ 0 → IfNoted card.now (λ stands. IsOk result) }
+    ensures functions { way.now.by ≡ 0 → IfNoted card.now (λ stands. IsOk result) }
 {
     let Some(stands) = stands_by(card) else {
         return Err(NOT_OPEN);
@@ -53,7 +41,7 @@ pub fn go_back<S: HasStory>(
         width: info.width,
         timing: info.timing,
     };
-    match Way::resume(given_of(stream, way), lines) {
+    match Way::resume(given_by(stream, way), lines) {
         Ok(host) => Ok((stands, StoryHost::resume(host, lines))),
         Err(fault) => Err(start_number(fault)),
     }

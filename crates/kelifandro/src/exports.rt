@@ -13,8 +13,8 @@ ghost use Rattle.kelifandro.specs.Calls.{IfMeant, IfNoted, TellsCounts, TellsWhy
 
 use crate::answers::NO_PARTITION;
 use crate::opening::open_by;
-use crate::requests::{serve_by, told};
-use c_host::{Sectors, SectorsMut};
+use crate::requests::serve_told;
+use c_host::{Sectors, SectorsMut, WayRecord};
 use mmc_direct::{Erasing, How, Reading, Writing};
 use mmc_record::{CardRecord, part_of};
 use mmc_recovery::Healed;
@@ -24,7 +24,7 @@ use std::marker::Brand;
 #[unsafe(no_mangle)]
 pub extern "C" fn kelifandro_open_by(
     stream: i32,
-    way: u8,
+    way: &WayRecord,
     card: &mut CardRecord,
     healed: &mut Healed,
 ) -> i32
@@ -38,7 +38,7 @@ pub extern "C" fn kelifandro_open_by(
 #[unsafe(no_mangle)]
 pub extern "C" fn kelifandro_read_by(
     stream: i32,
-    way: u8,
+    way: &WayRecord,
     card: &mut CardRecord,
     healed: &mut Healed,
     part: u8,
@@ -48,7 +48,7 @@ pub extern "C" fn kelifandro_read_by(
     ensures no_partition { part_of part ≡ None → result ≡ minus 2 }
     ensures not_open { IsSome (part_of part) → is_note card.old ≡ false → result ≡ minus 1 }
     ensures judged { IfNoted card.old (λ stands. IfMeant part (λ part.
-        TellsWhy way (refusal Read (info_of stands) part start (length blocks.old)) result)) }
+        TellsWhy way.now.by (refusal Read (info_of stands) part start (length blocks.old)) result)) }
     ensures uncounted { is_attempted result ≡ false → healed.new ≡ healed.old }
     ensures counted { IfNoted card.old (λ stands. TellsCounts stands healed.old result card.new healed.new) }
     ensures unread { is_attempted result ≡ false → blocks.new ≡ blocks.old }
@@ -62,14 +62,14 @@ pub extern "C" fn kelifandro_read_by(
         start,
         blocks: &mut lent,
     };
-    told(serve_by::<Brand, _>(stream, way, card, healed, &mut request))
+    serve_told(stream, way, card, healed, &mut request)
 }
 
 /// Writes sectors.
 #[unsafe(no_mangle)]
 pub extern "C" fn kelifandro_write_by(
     stream: i32,
-    way: u8,
+    way: &WayRecord,
     card: &mut CardRecord,
     healed: &mut Healed,
     part: u8,
@@ -79,7 +79,7 @@ pub extern "C" fn kelifandro_write_by(
     ensures no_partition { part_of part ≡ None → result ≡ minus 2 }
     ensures not_open { IsSome (part_of part) → is_note card.old ≡ false → result ≡ minus 1 }
     ensures judged { IfNoted card.old (λ stands. IfMeant part (λ part.
-        TellsWhy way (refusal Write (info_of stands) part start (length blocks.now)) result)) }
+        TellsWhy way.now.by (refusal Write (info_of stands) part start (length blocks.now)) result)) }
     ensures uncounted { is_attempted result ≡ false → healed.new ≡ healed.old }
     ensures counted { IfNoted card.old (λ stands. TellsCounts stands healed.old result card.new healed.new) }
 {
@@ -92,14 +92,14 @@ pub extern "C" fn kelifandro_write_by(
         start,
         blocks: &lent,
     };
-    told(serve_by::<Brand, _>(stream, way, card, healed, &mut request))
+    serve_told(stream, way, card, healed, &mut request)
 }
 
 /// Erases sectors.
 #[unsafe(no_mangle)]
 pub extern "C" fn kelifandro_erase_by(
     stream: i32,
-    way: u8,
+    way: &WayRecord,
     card: &mut CardRecord,
     healed: &mut Healed,
     part: u8,
@@ -109,7 +109,7 @@ pub extern "C" fn kelifandro_erase_by(
     ensures no_partition { part_of part ≡ None → result ≡ minus 2 }
     ensures not_open { IsSome (part_of part) → is_note card.old ≡ false → result ≡ minus 1 }
     ensures judged { IfNoted card.old (λ stands. IfMeant part (λ part.
-        TellsWhy way (refusal Erase (info_of stands) part start count) result)) }
+        TellsWhy way.now.by (refusal Erase (info_of stands) part start count) result)) }
     ensures uncounted { is_attempted result ≡ false → healed.new ≡ healed.old }
     ensures counted { IfNoted card.old (λ stands. TellsCounts stands healed.old result card.new healed.new) }
 {
@@ -122,14 +122,14 @@ pub extern "C" fn kelifandro_erase_by(
         count,
         how: How::Erase,
     };
-    told(serve_by::<Brand, _>(stream, way, card, healed, &mut request))
+    serve_told(stream, way, card, healed, &mut request)
 }
 
 /// Trims sectors.
 #[unsafe(no_mangle)]
 pub extern "C" fn kelifandro_trim_by(
     stream: i32,
-    way: u8,
+    way: &WayRecord,
     card: &mut CardRecord,
     healed: &mut Healed,
     part: u8,
@@ -139,7 +139,7 @@ pub extern "C" fn kelifandro_trim_by(
     ensures no_partition { part_of part ≡ None → result ≡ minus 2 }
     ensures not_open { IsSome (part_of part) → is_note card.old ≡ false → result ≡ minus 1 }
     ensures judged { IfNoted card.old (λ stands. IfMeant part (λ part.
-        TellsWhy way (refusal Trim (info_of stands) part start count) result)) }
+        TellsWhy way.now.by (refusal Trim (info_of stands) part start count) result)) }
     ensures uncounted { is_attempted result ≡ false → healed.new ≡ healed.old }
     ensures counted { IfNoted card.old (λ stands. TellsCounts stands healed.old result card.new healed.new) }
 {
@@ -152,5 +152,5 @@ pub extern "C" fn kelifandro_trim_by(
         count,
         how: How::Trim,
     };
-    told(serve_by::<Brand, _>(stream, way, card, healed, &mut request))
+    serve_told(stream, way, card, healed, &mut request)
 }

@@ -3,6 +3,7 @@
 
 mod answers;
 mod calls;
+mod closing;
 mod exports;
 mod opening;
 mod requests;

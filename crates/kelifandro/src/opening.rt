@@ -3,13 +3,13 @@
 ghost use Rattle.std.specs.Prelude.{◌≡◌, ◌≤◌, ◌+◌, IfNone, IfSome, [], pos, true};
 ghost use Rattle.mmc_card.specs.Profile.{InProfile};
 ghost use Rattle.mmc_recovery.specs.Healed.{none_met};
-ghost use Rattle.mmc_calls.specs.Opened.{IsReadyAs};
+ghost use Rattle.mmc_direct.specs.Opened.{IsReadyAs};
 
 use crate::answers::{DONE, start_number, unopened_number};
-use crate::calls::{CHost, given_of};
-use c_host::Way;
+use crate::calls::CHost;
+use c_host::{Way, WayRecord, given_by};
 use mmc_bus::Bus;
-use mmc_calls::open;
+use mmc_direct::open;
 use mmc_host::HostBus;
 use mmc_record::CardRecord;
 use mmc_recovery::Healed;
@@ -18,7 +18,7 @@ use mmc_story::{HasStory, StoryHost};
 /// Opens a card.
 pub fn open_by<S: HasStory>(
     stream: i32,
-    way: u8,
+    way: &WayRecord,
     card: &mut CardRecord,
     healed: &mut Healed,
 ) -> (i32, Option<HostBus<CHost<S>>>)
@@ -33,7 +33,7 @@ pub fn open_by<S: HasStory>(
 {
     card.state = 0;
     *healed = Healed::new();
-    match Way::begin(given_of(stream, way)) {
+    match Way::begin(given_by(stream, way)) {
         Ok(host) => {
             let mut bus = HostBus::new(StoryHost::new(host));
             match open(&mut bus, card, healed) {

@@ -1,25 +1,26 @@
-// A request of C: one call of `mmc_calls`, over the host that C has given, with a diary. What is promised of the card holds for every story
+// A request of C: one call of `serve_over`, over the host that C has given, with a diary. What is promised of the card holds for every story
 // that is true of the diary. What is left of the host is handed out, since by it the contract says what became of the card.
 ghost use Rattle.std.specs.Prelude.{◌≡◌, Err, IfErr, IfOk, IsOk, [], false, is_err, is_some, pos};
-ghost use Rattle.mmc_calls.specs.Noted.{IsCounted, IsServed, Notes};
+ghost use Rattle.mmc_direct.specs.Noted.{IsCounted, IsServed, Notes};
 ghost use Rattle.mmc_direct.specs.Refusal.{refusal_of};
-ghost use Rattle.mmc_direct.specs.Requests.{HasServed};
+ghost use Rattle.mmc_direct.specs.Requests.{Serves};
 ghost use Rattle.mmc_direct.specs.Served.{IfRefused, IfServed, refusal_in};
 ghost use Rattle.mmc_switch.specs.Stands.{info_of};
 ghost use Rattle.mmc_record.specs.Note.{is_note};
 ghost use Rattle.mmc_story.specs.Story.{IsTrueOf};
 ghost use Rattle.kelifandro.specs.Answers.{answer_number, minus};
-ghost use Rattle.kelifandro.specs.Calls.{IfNoted, host_of, is_attempted};
+ghost use Rattle.kelifandro.specs.Calls.{IfNoted, TellsCounts, TellsWhy, host_of, is_attempted};
 
 use crate::answers::answer_number;
 use crate::calls::{CHost, go_back};
+use c_host::WayRecord;
 use mmc_bus::{Bus, Lines};
-use mmc_calls::{Left, serve_over};
-use mmc_direct::{NotDone, Request};
+use mmc_direct::{Left, NotDone, Request, serve_over};
 use mmc_host::{Host, HostBus};
 use mmc_record::CardRecord;
 use mmc_recovery::Healed;
 use mmc_story::HasStory;
+use std::marker::Brand;
 
 /// What became of a request that came to a host.
 #[derive(Drop)]
@@ -32,13 +33,30 @@ pub struct Called<H: Host> {
     pub left: Left<H>,
 }
 
-/// The number that C is told.
-pub fn told<H: Host + Drop>(called: Result<Called<H>, i32>) -> i32
+// Leaves nothing under way where an attempt failed.
+fn stop<S: HasStory>(answer: &Result<(), NotDone>, left: Left<CHost<S>>) {
+    if let (Err(NotDone::Failed(_)), Ok(bus)) = (answer, left) {
+        let mut way = bus.into_host().into_host();
+        way.stop();
+    }
+}
+
+// Ends a call, and tells the number that C is told.
+fn told<S: HasStory>(called: Result<Called<CHost<S>>, i32>) -> i32
     ensures answer { IfOk called (λ did. result ≡ answer_number did.answer) }
     ensures why { IfErr called (λ number. result ≡ number) }
 {
     match called {
-        Ok(did) => answer_number(did.answer),
+        Ok(
+            Called {
+                answer,
+                limits: _,
+                left,
+            },
+        ) => {
+            stop(&answer, left);
+            answer_number(answer)
+        }
         Err(number) => number,
     }
 }
@@ -49,13 +67,13 @@ pub fn told<H: Host + Drop>(called: Result<Called<H>, i32>) -> i32
 /// The number of why it came to no host.
 pub fn serve_by<S: HasStory, R: Request>(
     stream: i32,
-    way: u8,
+    way: &WayRecord,
     card: &mut CardRecord,
     healed: &mut Healed,
     request: &mut R,
 ) -> Result<Called<CHost<S>>, i32>
     ensures not_open { is_note card.old ≡ false → result ≡ Err (minus 1) }
-    ensures functions { way ≡ 0 → IfNoted card.old (λ stands. IsOk result) }
+    ensures functions { way.now.by ≡ 0 → IfNoted card.old (λ stands. IsOk result) }
     ensures fault { IfErr result (λ number. number ≡ pos 0 → ⊥) }
     ensures unmade { IfErr result (λ number. is_attempted number ≡ false) }
     ensures no_host { IfErr result (λ number. (card.new ≡ card.old) × (request.new ≡ request.old)) }
@@ -70,7 +88,7 @@ pub fn serve_by<S: HasStory, R: Request>(
         (IsCounted stands healed.old did.answer card.new healed.new))) }
     ensures leaves { R.leaves request.old request.new }
     ensures served { IsTrueOf S.story [] → IfNoted card.old (λ stands. IfOk result (λ did. IfOk did.left (λ bus.
-        IsServed (HasServed (R.change (info_of stands) request.old) (λ sets. R.has sets request.new)) stands
+        IsServed (Serves (R.change (info_of stands) request.old) (λ sets. R.has sets request.new)) stands
         (host_of S.story stands did.limits) did.answer card.new (⟦<HostBus<CHost<S>> as Bus>⟧.view bus)))) }
 {
     let (stands, host) = go_back(stream, way, card)?;
@@ -81,4 +99,22 @@ pub fn serve_by<S: HasStory, R: Request>(
         limits,
         left,
     })
+}
+
+/// Serves a request. What C can see of it stands here; of the card `serve_by` promises, for every story: `Brand` picks none.
+pub fn serve_told<R: Request>(
+    stream: i32,
+    way: &WayRecord,
+    card: &mut CardRecord,
+    healed: &mut Healed,
+    request: &mut R,
+) -> i32
+    ensures not_open { is_note card.old ≡ false → result ≡ minus 1 }
+    ensures judged { IfNoted card.old (λ stands. TellsWhy way.now.by (refusal_of (info_of stands) (R.asked request.old)) result) }
+    ensures uncounted { is_attempted result ≡ false → healed.new ≡ healed.old }
+    ensures counted { IfNoted card.old (λ stands. TellsCounts stands healed.old result card.new healed.new) }
+    ensures untouched { is_attempted result ≡ false → request.new ≡ request.old }
+    ensures leaves { R.leaves request.old request.new }
+{
+    told(serve_by::<Brand, R>(stream, way, card, healed, request))
 }

@@ -11,7 +11,7 @@ use Rattle.mmc_switch.specs.declared.broken.Broken.{Broken}
 use Rattle.mmc_switch.specs.declared.session.Session.{Session}
 use Rattle.mmc_direct.specs.Attempts.{HasTried}
 use Rattle.mmc_requests.specs.Changes.{written_at}
-use Rattle.mmc_direct.specs.Requests.{HasRead, HasServed}
+use Rattle.mmc_direct.specs.Requests.{HasRead, Serves}
 use Rattle.mmc_direct.specs.Served.{answer_of}
 use Rattle.mmc_requests.specs.declared.refused.Refused.{Refused}
 use Rattle.mmc_switch.specs.Stands.{StandsIn, stands_of}
@@ -27,7 +27,7 @@ served_as P served result stands answer p =
 
 served_so : (change : Change) (Has : Sets → Type 0) (old : BusView) (result : Result Session Broken) (new : BusView)
     → HasTried 4 change old result new → IfOk result (λ session. Has (holds new.card))
-    → HasServed change Has old (record { stands = stands_of result; answer = answer_of result }) new
+    → Serves change Has old (record { stands = stands_of result; answer = answer_of result }) new
 served_so change Has old (Ok session) new t has = record {
   changed = record { stays = t.stays; stands = t.stands; within = t.within; done = t.done; failed = λ profile. tt };
   has = has;
@@ -40,17 +40,17 @@ served_so change Has old (Err broken) new t has = record {
 -- four attempts, of which the last one came to this
 pub has_served : (change : Change) (Has : Sets → Type 0) (old : BusView) (served : Served) (result : Result Session Broken)
     (new : BusView) → served.stands ≡ stands_of result → served.answer ≡ answer_of result → HasTried 4 change old result new
-    → IfOk result (λ session. Has (holds new.card)) → HasServed change Has old served new
+    → IfOk result (λ session. Has (holds new.card)) → Serves change Has old served new
 has_served change Has old served result new stands answer t has =
-    served_as (λ s. HasServed change Has old s new) served result stands answer (served_so change Has old result new t has)
+    served_as (λ s. Serves change Has old s new) served result stands answer (served_so change Has old result new t has)
 
 -- one that was refused, whose card stays as it was
 pub has_refused : (change : Change) (Has : Sets → Type 0) (view : BusView) (served : Served) (stands : Stands) (why : Refused)
     → served.stands ≡ stands → served.answer ≡ Err (RefusedFor why) → StandsIn stands view
-    → HasServed change Has view served view
+    → Serves change Has view served view
 has_refused change Has view served stands why left answer at =
-    subst (λ a. HasServed change Has view (record { stands = served.stands; answer = a }) view) (sym answer)
-    (subst (λ s. HasServed change Has view (record { stands = s; answer = Err (RefusedFor why) }) view) (sym left) (record {
+    subst (λ a. Serves change Has view (record { stands = served.stands; answer = a }) view) (sym answer)
+    (subst (λ s. Serves change Has view (record { stands = s; answer = Err (RefusedFor why) }) view) (sym left) (record {
       changed = record {
         stays = stays_same view view.lines;
         stands = at;
@@ -71,7 +71,7 @@ none_changed change new old none within part sector value h =
     ]
 
 read_so : (part : Part) (start : ℕ) (blocks : List Sector) (old : BusView) (served : Served) (new : BusView)
-    → HasServed (written_at part start []) (λ sets. AreRead sets part start blocks) old served new
+    → Serves (written_at part start []) (λ sets. AreRead sets part start blocks) old served new
     → HasRead part start blocks old served new
 read_so part start blocks old served new s = record {
   stays = s.changed.stays;
@@ -84,10 +84,10 @@ read_so part start blocks old served new s = record {
 -- a read changes no sector, and has what is left in its blocks
 pub has_read : (part left_part : Part) (start left_start : ℕ) (blocks left : List Sector) (old : BusView) (served : Served)
     (new : BusView) → left_part ≡ part → left_start ≡ start → left ≡ blocks
-    → HasServed (written_at part start []) (λ sets. AreRead sets left_part left_start left) old served new
+    → Serves (written_at part start []) (λ sets. AreRead sets left_part left_start left) old served new
     → HasRead part start blocks old served new
 has_read part left_part start left_start blocks left old served new same_part same_start same s =
     read_so part start blocks old served new
-    (subst (λ p. HasServed (written_at part start []) (λ sets. AreRead sets p start blocks) old served new) same_part
-    (subst (λ n. HasServed (written_at part start []) (λ sets. AreRead sets left_part n blocks) old served new) same_start
-    (subst (λ xs. HasServed (written_at part start []) (λ sets. AreRead sets left_part left_start xs) old served new) same s)))
+    (subst (λ p. Serves (written_at part start []) (λ sets. AreRead sets p start blocks) old served new) same_part
+    (subst (λ n. Serves (written_at part start []) (λ sets. AreRead sets left_part n blocks) old served new) same_start
+    (subst (λ xs. Serves (written_at part start []) (λ sets. AreRead sets left_part left_start xs) old served new) same s)))

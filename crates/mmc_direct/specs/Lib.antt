@@ -1,6 +1,8 @@
 pub mod Asked
 pub mod Attempts
 pub mod Healing
+pub mod Noted
+pub mod Opened
 pub mod Refusal
 pub mod RequestLaws
 pub mod Requests

@@ -26,7 +26,7 @@ pub record HasChanged (change : Change) (old : BusView) (served : Served) (new :
   pub failed : InProfile old.card.made → IfFailed served.answer (λ _. old.faults + 4 ≤ new.faults)
 
 -- A request of any kind: it makes this change, and this is true of it once it is done, by what sectors may hold.
-pub record HasServed (change : Change) (Has : Sets → Type 0) (old : BusView) (served : Served) (new : BusView) : Type 0 where
+pub record Serves (change : Change) (Has : Sets → Type 0) (old : BusView) (served : Served) (new : BusView) : Type 0 where
   pub changed : HasChanged change old served new
   pub has : IfOk served.answer (λ _. Has (holds new.card))
 

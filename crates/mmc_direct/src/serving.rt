@@ -4,7 +4,7 @@ ghost use Rattle.mmc_switch.specs.Info.{lasting};
 ghost use Rattle.mmc_direct.specs.Attempts.{exchanges_of};
 ghost use Rattle.mmc_direct.specs.Healing.{HasHealed};
 ghost use Rattle.mmc_direct.specs.Refusal.{refusal_of};
-ghost use Rattle.mmc_direct.specs.Requests.{HasServed};
+ghost use Rattle.mmc_direct.specs.Requests.{Serves};
 ghost use Rattle.mmc_requests.specs.declared.limits.TheConstants.{ATTEMPTS};
 ghost use Rattle.mmc_direct.specs.Served.{AnswersBy, IfLeft, IfRefused, IfServed, IsCausedIn, refusal_in};
 ghost use Rattle.mmc_switch.specs.Stands.{StandsIn, info_of};
@@ -39,7 +39,7 @@ pub fn serve<B: Bus, R: Request>(
 
     ensures kept { (B.view bus.new).is_kept ≡ true → (B.view bus.old).is_kept ≡ true }
     ensures served { (B.view bus.new).is_kept ≡ true → StandsIn stands (B.view bus.old)
-        → HasServed (R.change (info_of stands) request.old) (λ sets. R.has sets request.new)
+        → Serves (R.change (info_of stands) request.old) (λ sets. R.has sets request.new)
         (B.view bus.old) result (B.view bus.new) }
 {
     let asked = request.asked();

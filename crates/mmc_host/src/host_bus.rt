@@ -88,6 +88,13 @@ impl<H: Host> HostBus<H> {
         &self.host
     }
 
+    /// The host again.
+    pub fn into_host(self) -> H
+        ensures { result ≡ self.host }
+    {
+        self.host
+    }
+
     /// How many exchanges there were; the number stays at 2^64 - 1.
     pub fn exchanges(&self) -> u64
         ensures { result ≡ self.now.wire.exchanges }

@@ -1,5 +1,5 @@
 -- Places that are filled several at a time.
-use Rattle.std.proofs.Common.{[], ◌*◌, ◌+◌, ◌<◌, ◌≡◌, ◌≤◌, List, add-one, arith, length, suc, ℕ}
+use Rattle.std.proofs.Common.{[], ◌*◌, ◌+◌, ◌<◌, ◌≡◌, ◌≤◌, List, arith, length, suc, ℕ}
 use Rattle.std.specs.Prelude.{slice_index_or, slice_range}
 use Rattle.mmc_bus.proofs.TogetherLemmas.{WritesOne}
 use Rattle.mmc_bus.specs.LeftLaws.{left_all, piece_long}

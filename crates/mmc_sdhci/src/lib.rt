@@ -24,7 +24,7 @@ pub use command::{has_data, register_in};
 pub use dma::{Dma, crosses_none, has_dma};
 pub use following::{Following, following_of};
 pub use mover::Mover;
-pub use offsets::{CAPABILITIES, PRESENT};
+pub use offsets::{CAPABILITIES, POWER, PRESENT};
 pub use registers::Registers;
 pub use sdhci::Sdhci;
 pub use start::{StartFault, limits_in};

@@ -2,10 +2,11 @@ ghost use Rattle.std.specs.Prelude.{◌<◌, ◌≡◌, IfErr, IfOk, true};
 ghost use Rattle.mmc_host.specs.HostStates.{lines_of, resting};
 ghost use Rattle.mmc_host.specs.Hosts.{IsUnused, Rests};
 ghost use Rattle.mmc_sdhci.specs.Controller.{IsAtMost, Settled, limits_in, lines_in};
-ghost use Rattle.mmc_sdhci.specs.Accesses.{IsAtRest, IsStill};
+ghost use Rattle.mmc_sdhci.specs.Accesses.{IsAtRest};
 ghost use Rattle.mmc_sdhci.specs.Beside.{is_inserted, is_protected};
 ghost use Rattle.mmc_sdhci.specs.Commands.{IsSet, LosesAll};
 ghost use Rattle.mmc_sdhci.specs.Driver.{IsAtEase, IsBaseClock, IsNew, IsReady, IsSameCard, IsUnready, are_words, clock_limit, host_over, speed_limit};
+ghost use Rattle.mmc_host.specs.declared.data.Data.TheVariants.{Nothing};
 ghost use Rattle.mmc_sdhci.specs.declared.start.StartFault.TheVariants.{NoBaseClock};
 ghost use Rattle.mmc_sdhci.specs.Finishing.{AreCapabilities};
 ghost use Rattle.mmc_sdhci.specs.Moving.{WhereKept};
@@ -21,7 +22,7 @@ use crate::settling::pause;
 use crate::start::{StartFault, control_of, has_card, limits_in, power_up, restart};
 use mmc_bus::{Blocks, BlocksMut, Moved};
 use mmc_card::{DataIn, DataOut, Lines};
-use mmc_host::{Heard, Host, HostCommand, HostState, Ios, ResponseFault, Work};
+use mmc_host::{Data, Heard, Host, HostCommand, HostState, Ios, ResponseFault, Work};
 
 /// A driver of an SD host controller.
 #[derive(Drop)]
@@ -127,39 +128,18 @@ impl<R: Registers> Sdhci<R> {
         })
     }
 
-    /// Goes on with a controller whose card is selected, on these lines, as a driver left it that has failed. Command line and data line
-    /// are reset: what was under way, or was left in the buffer, is lost (section 2.2.16). Nothing else is set anew.
-    ///
-    /// # Errors
-    /// As `resume`.
-    pub fn take_over(registers: R, lines: Lines) -> Result<Sdhci<R>, (R, StartFault)>
-        requires still { IsStill (R.view registers) }
-        requires set { IsSet (R.view registers) }
-        requires lines { WhereKept (R.view registers) (lines_in (R.view registers).settings.control ≡ lines) }
-        requires clock { WhereKept (R.view registers) (IsAtMost (speed_limit lines.timing) (R.view registers)) }
-        ensures lost { IfOk result (λ host. LosesAll (R.view registers) (R.view host.registers)) }
-        ensures same { IfOk result (λ host. Settled (R.view registers)
-            (IsAtEase (R.view registers) → IsSameCard (R.view registers) (R.view host.registers)) (R.view host.registers)) }
-        ensures resting { IfOk result (λ host. host.state ≡ resting lines) }
-        ensures fault { IfErr result (λ failed. failed.1 ≡ NoBaseClock) }
-        ensures unready { IfErr result (λ failed. IsUnready failed.1 (R.view failed.0)) }
+    /// Leaves nothing under way where something has failed: command line and data line are reset (section 2.2.16), and what was under
+    /// way, or was left in the buffer, is lost. Lines and clock stay, so that `resume` can go on with the registers.
+    pub fn stop(&mut self)
+        ensures lost { LosesAll (R.view self.old.registers) (R.view self.new.registers) }
+        ensures ready { IsReady (R.view self.new.registers) }
+        ensures same { Settled (R.view self.old.registers)
+            (IsAtEase (R.view self.old.registers) → IsSameCard (R.view self.old.registers) (R.view self.new.registers))
+            (R.view self.new.registers) }
+        ensures state { self.new.state ≡ record self.old.state { transfer = Nothing } }
     {
-        let mut registers = registers;
-        lose_all(&mut registers);
-        let capabilities = registers.read32(CAPABILITIES);
-        let version = registers.read8(VERSION);
-        let base = base_clock(capabilities, version);
-        if base == 0 {
-            return Err((registers, StartFault::NoBaseClock));
-        }
-        Ok(Sdhci {
-            registers,
-            state: HostState::resting(lines),
-            limits: limits_in(capabilities),
-            base,
-            version,
-            capabilities,
-        })
+        lose_all(&mut self.registers);
+        self.state.transfer = Data::Nothing;
     }
 
     /// Whether a card is inserted now, by Present State. The card isn't asked.

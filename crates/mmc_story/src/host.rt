@@ -74,6 +74,13 @@ impl<H: Host, S: HasStory> StoryHost<H, S> {
         &self.host
     }
 
+    /// The driver again.
+    pub fn into_host(self) -> H
+        ensures { result ≡ self.host }
+    {
+        self.host
+    }
+
     // Notes a call with its answer.
     fn note(&mut self, call: Call<'_>)
         ensures past { self.new.diary.past ≡ record {

@@ -17,7 +17,7 @@ use anyhow::{Result, anyhow};
 use mmc_block::{BlockDev, Part};
 use mmc_host::HostBus;
 use mmc_sdhci::{Registers, Sdhci};
-use sdhci_board::{Board, Slot};
+use sdhci_board::{Board, Known, Slot};
 use std::env;
 
 const USAGE: &str = "usage: qemu_sdhci RUNS SEED [--words | --dma]";
@@ -68,7 +68,13 @@ fn main(rt: HostRuntime) -> Result<()> {
         [_, rounds, seed] => serve(&rt, registers, rounds.parse::<u64>()?, seed.parse::<u64>()?),
         [_, rounds, seed, way] if way.as_str() == "--words" => serve(
             &rt,
-            Board::new(registers, Slot::AlwaysThere, None),
+            Board::new(
+                registers,
+                Known {
+                    slot: Slot::AlwaysThere,
+                    capabilities: None,
+                },
+            ),
             rounds.parse::<u64>()?,
             seed.parse::<u64>()?,
         ),

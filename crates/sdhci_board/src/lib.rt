@@ -3,7 +3,9 @@
 #![tactic(auto)]
 
 mod board;
+mod known;
 mod words;
 
-pub use board::{Board, Slot};
+pub use board::Board;
+pub use known::{Known, Slot, byte_in, with_byte, word_at};
 pub use words::Words;

@@ -1,9 +1,9 @@
 use Rattle.std.proofs.Common.{◌≡◌}
 use Rattle.std.proofs.lemmas.Bool.{false≢true}
 use Rattle.std.specs.Prelude.{IfOk}
-use Rattle.mmc_calls.specs.Noted.{IsCounted, IsServed}
+use Rattle.mmc_direct.specs.Noted.{IsCounted, IsServed}
 use Rattle.mmc_direct.specs.Refusal.{refusal_of}
-use Rattle.mmc_direct.specs.Requests.{HasServed}
+use Rattle.mmc_direct.specs.Requests.{Serves}
 use Rattle.mmc_direct.specs.Served.{IfServed, refusal_in}
 use Rattle.mmc_host.specs.Hosts.{bus_over}
 use Rattle.mmc_story.specs.Story.{host_with}
@@ -41,7 +41,7 @@ returns-clause-served g c =
     c.in_ok-stands.host.told.state c.in_ok-stands.host.limits c.limits-limits.result c.in_ok-stands.ensures.stands
     c.in_ok-stands.ensures.past c.in_ok-stands.ensures.state c.limits-limits.ensures
     (λ stands host. IfOk c.serve_over-answer.result.1 (λ bus.
-    IsServed (HasServed (g.R.Request.change (info_of stands) c.args.request.now)
+    IsServed (Serves (g.R.Request.change (info_of stands) c.args.request.now)
     (λ sets. g.R.Request.has sets c.serve_over-answer.new.request)) stands host c.serve_over-answer.result.0
     c.serve_over-answer.new.card
     (bus_over (host_with (g.S.HasStory.story.outcome bus.host.diary.past) bus.host.told.state bus.host.limits) bus.wire

@@ -1,5 +1,5 @@
 use Rattle.std.proofs.Common.{◌≡◌}
-use Rattle.c_host.specs.Told.{with_lines}
+use Rattle.c_host.specs.Lending.{with_lines}
 use Rattle.c_host.proofs.stream.Stream.lend_table.Given as goal
 
 abbrev pub invariant-loop-i : goal.invariant-loop-i

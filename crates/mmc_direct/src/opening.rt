@@ -1,0 +1,40 @@
+// Opening a card.
+ghost use Rattle.std.specs.Prelude.{◌+◌, ◌≡◌, ◌≤◌, IfErr, IfOk, true};
+ghost use Rattle.mmc_card.specs.Profile.{InProfile};
+ghost use Rattle.mmc_recovery.specs.Healed.{none_met};
+ghost use Rattle.mmc_switch.specs.declared.opening.TheConstants.{EXCHANGES_OF_AN_OPENING};
+ghost use Rattle.mmc_direct.specs.Opened.{IsReadyAs};
+
+use mmc_bus::Bus;
+use mmc_record::{CardRecord, note};
+use mmc_recovery::Healed;
+use mmc_switch::{InitializationFault, open_card};
+
+/// Opens the card, whatever became of it before, and notes it. Until it is open the record is that of no card. What is met and healed
+/// is counted from here on. What cards of its make are known to do wrong isn't used: trims of some eMMC devices, and CMD23 of some
+/// SD cards.
+///
+/// # Errors
+/// What the last of three rounds says; of a card in profile only where three faults fell.
+pub fn open<B: Bus>(
+    bus: &mut B,
+    card: &mut CardRecord,
+    healed: &mut Healed,
+) -> Result<(), InitializationFault>
+    ensures bounded { (B.view bus.new).exchanges ≤ (B.view bus.old).exchanges + EXCHANGES_OF_AN_OPENING }
+    ensures opened { (B.view bus.new).is_kept ≡ true → IfOk result (λ _. IsReadyAs card.new (B.view bus.new)) }
+    ensures healed { healed.new ≡ none_met }
+    ensures not_open { IfErr result (λ _. card.new.state ≡ 0) }
+    ensures refused { (B.view bus.new).is_kept ≡ true → InProfile (B.view bus.old).card.made
+        → IfErr result (λ _. (B.view bus.old).faults + 3 ≤ (B.view bus.new).faults) }
+{
+    card.state = 0;
+    *healed = Healed::new();
+    match open_card(bus) {
+        Ok(session) => {
+            *card = note(&session.heeding_known_faults());
+            Ok(())
+        }
+        Err(fault) => Err(fault),
+    }
+}
