@@ -6,57 +6,11 @@
 #include "kelifandro.h"
 #include "kelifandro_core.h"
 
-/* The proved library reads and writes struct kelifandro_card by these places (crates/mmc_record/src/record.rt), and counts in eight
-   numbers (crates/mmc_recovery/src/healed.rt), the lowest byte of each first. An array of -1 is refused on any processor where that
-   isn't so. */
-#define IS_SO(name, is_so) typedef char name##_is_there[(is_so) ? 1 : -1]
-#define HAS_PLACE(field, place) IS_SO(field, offsetof(struct kelifandro_card, field) == (place))
-HAS_PLACE(state, 0);
-HAS_PLACE(cause, 11);
-HAS_PLACE(rca, 12);
-HAS_PLACE(cid, 14);
-HAS_PLACE(csd, 30);
-HAS_PLACE(unused, 46);
-HAS_PLACE(user, 48);
-HAS_PLACE(boot, 56);
-HAS_PLACE(gp1, 64);
-HAS_PLACE(gp4, 88);
-HAS_PLACE(erase_unit, 96);
-IS_SO(card, sizeof(struct kelifandro_card) == 104);
-IS_SO(by_recovery, offsetof(struct kelifandro_healed, by_recovery) == 40);
-IS_SO(resets, offsetof(struct kelifandro_healed, resets) == 56);
-IS_SO(healed, sizeof(struct kelifandro_healed) == 64);
-IS_SO(part, sizeof(enum kelifandro_part) == 4);
-IS_SO(way, sizeof(struct kelifandro_way) == 12);
-#if defined __BYTE_ORDER__ && __BYTE_ORDER__ != __ORDER_LITTLE_ENDIAN__
-#error "struct kelifandro_card has the lowest byte of a number first: this processor has the highest first"
-#endif
-
-/* The records (crates/c_host/src/records.rt), by their first bytes. A block has no record: it is put, and its status got, or it is got. */
-enum {
-    SEND = 1,
-    LOOK = 4,
-    SET_IOS,
-    PAUSE,
-    READ_REGISTER = 8,
-    WRITE_REGISTER,
-    READ_WITH,
-    WRITE_WITH,
-    LEND = 14,
-    TAKE_BACK = 17,
-    LEND_TABLE,
-    /* a line of a table begins with its attributes: one of several, and the last */
-    LINE = 0x21,
-    LAST_LINE = 0x23
-};
+/* Bytes of a block, and registers of a controller (SD Host Controller 3.00, section 2.2). */
+enum { BLOCK = 512, PORT = 0x20, PRESENT_STATE = 0x24 };
 
 /* What is got next: a block, what came of a record, or no more of a bad block. */
 enum { NOTHING, ANSWER, END };
-
-enum { BLOCK = 512 };
-
-/* Registers of a controller (SD Host Controller 3.00, section 2.2) that are looked at. */
-enum { COMMAND = 0x0c, RESPONSE = 0x10, PORT = 0x20, PRESENT_STATE = 0x24 };
 
 /* A small library is built without what these name (c/build --without), here and in kelifandro_core.c: nothing may lead there. */
 #if defined KELIFANDRO_WITHOUT_WRITE && !defined KELIFANDRO_WITHOUT_ERASE
@@ -65,16 +19,9 @@ enum { COMMAND = 0x0c, RESPONSE = 0x10, PORT = 0x20, PRESENT_STATE = 0x24 };
 #if defined KELIFANDRO_WITHOUT_HOST && defined KELIFANDRO_WITHOUT_REGISTERS || defined KELIFANDRO_WITHOUT_SD && defined KELIFANDRO_WITHOUT_MMC
 #error "without both there is nothing left"
 #endif
-/* What is called seldom stands apart from what is called for each register and block: that saves few registers then. */
-#if defined __GNUC__
-#define APART __attribute__((__noinline__)) /* of which some systems have a macro without underscores */
-#else
-#define APART
-#endif
 
-/* The number of its stream leads from a record back to the card of the call. It is the card's address; where that has more bits, the
-   lower half of the address of a place on the stack, where the card's address is kept: no two places on one stack are so far from each
-   other that this half doesn't tell them apart. So calls share no variable. A sanitizer mustn't put the place elsewhere. */
+/* What is called seldom stands apart from what is called for each register and block: that saves few registers then. A sanitizer mustn't
+   move what is to stay on the stack. Of what is hidden no compiler thinks any more that it leads to the variable that it was had of. */
 #if defined __clang__
 #define ON_STACK __attribute__((__no_sanitize__("address", "hwaddress")))
 #elif defined __GNUC__
@@ -83,106 +30,65 @@ enum { COMMAND = 0x0c, RESPONSE = 0x10, PORT = 0x20, PRESENT_STATE = 0x24 };
 #define ON_STACK
 #endif
 #if defined __GNUC__
-#define HIDDEN(number) __asm__("" : "+r"(number)) /* no compiler may think that it still leads to the variable that it was had of */
+#define APART __attribute__((__noinline__)) /* of which some systems have a macro without underscores */
+#define HIDDEN(number) __asm__("" : "+r"(number))
 #else
+#define APART
 #define HIDDEN(number) (void)0
 #endif
-#if UINTPTR_MAX > UINT32_MAX
-typedef struct kelifandro *volatile place; /* volatile: it is read by a way that no compiler sees */
 
-static uint32_t stream_of(place *place)
-{
-    return (uint32_t)(uintptr_t)place;
-}
+/* The number of its stream leads from a record back to the card of the call: it is the lower half of the address of a place on the stack,
+   where the card's address is kept. No two places on one stack are so far from each other that this half doesn't tell them apart. So calls
+   share no variable. */
+typedef struct kelifandro *volatile place; /* volatile: it is read by a way that no compiler sees */
 
 ON_STACK static struct kelifandro *card_of(int32_t stream)
 {
     char own;
     uintptr_t here = (uintptr_t)&own;
     HIDDEN(here);
-    return *(place *)(here + (uintptr_t)(intptr_t)(int32_t)((uint32_t)stream - (uint32_t)here));
-}
-#else
-typedef struct kelifandro *place;
-
-static uint32_t stream_of(place *place)
-{
-    return (uint32_t)(uintptr_t)*place;
+    return *(place *)(here + (uintptr_t)(ptrdiff_t)(int32_t)((uint32_t)stream - (uint32_t)here));
 }
 
-static struct kelifandro *card_of(int32_t stream)
-{
-    return (struct kelifandro *)(uintptr_t)(uint32_t)stream;
-}
-#endif
-
-/* Whether the card is reached by a host; else by registers. */
-static int is_by_host(const struct kelifandro *kelifandro)
-{
+/* Whether the card is reached by a host; else by registers. Where there is one way alone the compiler finds what isn't called then. */
 #if defined KELIFANDRO_WITHOUT_REGISTERS
-    return (void)kelifandro, 1;
+#define IS_BY_HOST(kelifandro) 1
 #elif defined KELIFANDRO_WITHOUT_HOST
-    return (void)kelifandro, 0;
+#define IS_BY_HOST(kelifandro) 0
 #else
-    return kelifandro->host != 0;
+#define IS_BY_HOST(kelifandro) ((kelifandro)->host != 0)
 #endif
-}
 
-enum { MOST = 65535 };
-
-/* More blocks than a request may name are one more: it is refused before any is touched. */
-static uint32_t at_most(uint64_t count)
+static int is_given(const struct kelifandro *kelifandro)
 {
-    return count > MOST ? MOST + 1 : (uint32_t)count;
+    return IS_BY_HOST(kelifandro) ? kelifandro->host != 0 : kelifandro->registers != 0;
 }
 
 /* The way to the card, as the proved library is told of it. */
 APART static struct kelifandro_way way_of(const struct kelifandro *kelifandro)
 {
-    struct kelifandro_way way = {0, 0, 0, 0, 0, 0, 0, 0};
-#ifndef KELIFANDRO_WITHOUT_HOST
-    if (is_by_host(kelifandro)) {
+    const struct kelifandro_registers *registers = kelifandro->registers;
+    struct kelifandro_way way = {0, 0, 0, 0, 0, 0, 0, 0, 0, 0, 0, 0};
+    if (IS_BY_HOST(kelifandro)) {
         way.lines = kelifandro->host->lines;
         way.high_speed = kelifandro->host->high_speed;
-    }
-#endif
-#ifndef KELIFANDRO_WITHOUT_REGISTERS
-    if (!is_by_host(kelifandro)) {
-        const struct kelifandro_registers *registers = kelifandro->registers;
+        way.switches_power = kelifandro->host->set_power != 0;
+    } else {
         way.by = 1;
+        way.lines = registers->lines;
         way.is_there = registers->is_there;
         way.is_by_words = registers->is_by_words;
         way.capabilities = registers->capabilities;
         way.lends = registers->lend != 0;
-        way.table_size = (uint16_t)(registers->table_size < MOST ? registers->table_size : MOST);
+        way.table_size = (uint16_t)(registers->table_size < 65535 ? registers->table_size : 65535);
     }
+#ifdef KELIFANDRO_WITHOUT_SD
+    way.without_sd = 1;
+#endif
+#ifdef KELIFANDRO_WITHOUT_MMC
+    way.without_mmc = 1;
 #endif
     return way;
-}
-
-/* A card of a kind that isn't served is never ready: the response to the command that asks whether it is, CMD1 or ACMD41, reads as 0 (SD
-   Physical Layer 6.00, section 4.2.3; JESD84-B51, section 6.4.2). */
-static int is_unserved_question(uint8_t index)
-{
-#if defined KELIFANDRO_WITHOUT_MMC
-    return index == 1;
-#elif defined KELIFANDRO_WITHOUT_SD
-    return index == 41;
-#else
-    return (void)index, 0;
-#endif
-}
-
-/* And what is kept of such a card is of no open one. */
-static int is_unserved(const struct kelifandro_card *card)
-{
-#if defined KELIFANDRO_WITHOUT_MMC
-    return card->kind != 0;
-#elif defined KELIFANDRO_WITHOUT_SD
-    return card->kind == 0;
-#else
-    return (void)card, 0;
-#endif
 }
 
 static uint16_t half_at(const uint8_t *bytes)
@@ -203,15 +109,6 @@ static void put_word(uint8_t *bytes, uint32_t word)
     bytes[3] = (uint8_t)(word >> 24);
 }
 
-/* Gives so many bytes of these words. */
-APART static void give(uint8_t *bytes, const uint32_t *words, size_t n)
-{
-    for (; n >= 4; n -= 4, bytes += 4)
-        put_word(bytes, *words++);
-    for (size_t i = 0; i < n; i++)
-        bytes[i] = (uint8_t)(*words >> 8 * i);
-}
-
 static void copy(uint8_t *to, const uint8_t *from, size_t n)
 {
     for (size_t i = 0; i < n; i++)
@@ -226,80 +123,59 @@ static void answer(struct kelifandro_call *call, uint64_t number)
     call->next = ANSWER;
 }
 
-#ifndef KELIFANDRO_WITHOUT_HOST
-/* Sends a command, by transfer where there is nothing else: a register that comes as a block is kept until it is asked for. */
-static int send_alone(struct kelifandro_call *call, const struct kelifandro_host *host, const struct kelifandro_command *command,
-                      uint32_t response[4])
-{
-    struct kelifandro_moved moved = {0, 0};
-    int fault;
-    if (host->send)
-        return host->send(host->context, command, response);
-    fault = host->transfer(host->context, command, response, call->block, command->data == KELIFANDRO_READ, &moved);
-    call->kept = moved.failed ? moved.failed : moved.good ? 0 : 2;
-    return fault;
-}
-
-static int read_alone(struct kelifandro_call *call, const struct kelifandro_host *host, uint8_t *bytes, size_t n)
-{
-    int kept = call->kept;
-    if (host->read_block)
-        return host->read_block(host->context, bytes, n);
-    copy(bytes, call->block, n);
-    call->kept = 2;
-    return kept;
-}
-
-/* A command, and so many of the request's blocks that may be moved with it. */
+/* A command, and so many of the request's blocks that may be moved with it; by transfer alone a register that comes as a block too, which
+   is kept until it is asked for. */
 APART static void send_command(struct kelifandro_call *call, const struct kelifandro_host *host, const uint8_t *record)
 {
     struct kelifandro_command command = {record[1], record[2], record[3], word_at(record + 4), half_at(record + 8), half_at(record + 10)};
-    uint16_t behind = record[0] == SEND ? 0 : half_at(record + 12);
+    int is_alone = record[0] == KELIFANDRO_SEND, fault;
+    uint16_t blocks = is_alone ? command.data == KELIFANDRO_READ : half_at(record + 12);
     struct kelifandro_moved moved = {0, 0};
-    uint32_t response[4] = {0, 0, 0, 0};
-    int fault = record[0] != SEND && host->transfer
-                    ? host->transfer(host->context, &command, response, call->memory, behind, &moved)
-                    : send_alone(call, host, &command, response);
-    if (is_unserved_question(command.index))
-        response[0] = 0;
     for (size_t i = 0; i < 4; i++)
-        call->answer[i] = response[i];
-    call->answer[4] = moved.good | (uint32_t)moved.failed << 16 | (uint32_t)fault << 24;
-    call->answer[5] = (uint32_t)fault >> 8;
+        call->answer[i] = 0;
+    if (host->send && (is_alone || !host->transfer))
+        fault = host->send(host->context, &command, call->answer);
+    else
+        fault = host->transfer(host->context, &command, call->answer, is_alone ? call->block : call->memory, blocks, &moved);
+    call->answer[4] = moved.good | (uint32_t)moved.failed << 16;
+    call->answer[5] = (uint32_t)fault;
     call->next = ANSWER;
-    if (command.data == KELIFANDRO_READ)
-        call->came = moved.failed || moved.good > behind ? behind : moved.good;
+    if (is_alone)
+        call->kept = moved.failed ? moved.failed : moved.good ? 0 : 2;
+    else if (command.data == KELIFANDRO_READ)
+        call->came = moved.failed || moved.good > blocks ? blocks : moved.good;
 }
 
-static void tell_host(struct kelifandro_call *call, const struct kelifandro_host *host, const uint8_t *record)
+static void tell_host(struct kelifandro_call *call, const struct kelifandro_host *host, const uint8_t *record, uint64_t n)
 {
+    if (n == BLOCK) {
+        answer(call, (uint32_t)(host->write_block ? host->write_block(host->context, record) : 2));
+        return;
+    }
     switch (record[0]) {
-    case SEND:
-    case READ_WITH:
-    case WRITE_WITH:
+    case KELIFANDRO_SEND:
+    case KELIFANDRO_READ_WITH:
+    case KELIFANDRO_WRITE_WITH:
         send_command(call, host, record);
         break;
-    case LOOK:
-        answer(call, host->is_busy(host->context, word_at(record + 1)) != 0);
+    case KELIFANDRO_LOOK:
+        answer(call, (uint32_t)host->is_busy(host->context, word_at(record + 1)));
         break;
-    case SET_IOS:
+    case KELIFANDRO_SET_IOS:
         host->set_ios(host->context, record[1], record[2], word_at(record + 3));
         break;
-    case PAUSE:
+    case KELIFANDRO_PAUSE:
         host->pause(host->context, word_at(record + 1));
+        break;
+    case KELIFANDRO_POWER:
+        host->set_power(host->context, record[1]);
+        break;
+    case KELIFANDRO_AFTER:
+        call->memory = (uint8_t *)call->memory + (size_t)word_at(record + 1) * BLOCK;
         break;
     }
 }
 
-/* Writes a block: 1 it was accepted, 2 rejected. */
-APART static void write_alone(struct kelifandro_call *call, const struct kelifandro_host *host, const uint8_t *block)
-{
-    int status = host->write_block ? host->write_block(host->context, block) : 2;
-    answer(call, status == 0 ? 1 : status == 1 ? 2 : 0);
-}
-#endif
-
-#ifndef KELIFANDRO_WITHOUT_REGISTERS
 /* A block through the Buffer Data Port, by one call where there is one for it. */
 static void read_by_port(const struct kelifandro_registers *registers, uint8_t *bytes, size_t n)
 {
@@ -321,135 +197,98 @@ APART static void write_by_port(const struct kelifandro_registers *registers, co
         registers->write(registers->context, PORT, 4, word_at(bytes + i));
 }
 
-static void read_register(struct kelifandro_call *call, const struct kelifandro_registers *registers, const uint8_t *record)
-{
-    int is_hidden = record[2] == RESPONSE && is_unserved_question(call->index);
-    call->answer[0] = is_hidden ? 0 : registers->read(registers->context, record[2], record[1]);
-    call->next = ANSWER;
-}
-
-static void write_register(struct kelifandro_call *call, const struct kelifandro_registers *registers, const uint8_t *record)
-{
-    if (record[2] == COMMAND)
-        call->index = record[6] & 0x3f;
-    registers->write(registers->context, record[2], record[1], word_at(record + 3));
-}
-
-/* Lends the first blocks of the request's memory for DMA; the lines of a table come after that. */
-APART static void lend(struct kelifandro_call *call, const struct kelifandro_registers *registers, const uint8_t *record)
-{
-    size_t n = (size_t)half_at(record + 2) * BLOCK;
-    call->table_length = 0;
-    answer(call, registers->lend(registers->context, call->memory, n, record[1]));
-}
-
-/* The next line of the table, for which there is room. */
-APART static void put_line(struct kelifandro_call *call, const struct kelifandro_registers *registers, const uint8_t *line, size_t n)
-{
-    for (size_t i = 0; i < n; i++)
-        ((uint8_t *)registers->table)[call->table_length++] = line[i];
-}
-
-APART static void lend_table(struct kelifandro_call *call, const struct kelifandro_registers *registers)
-{
-    answer(call, registers->lend(registers->context, registers->table, call->table_length, 0));
-}
-
 /* Takes back a table, and what was lent; what was read has come to its places. */
 APART static void take_memory_back(struct kelifandro_call *call, const struct kelifandro_registers *registers, const uint8_t *record)
 {
-    size_t table = half_at(record + 4);
-    uint16_t lent = half_at(record + 2);
+    uint16_t blocks = half_at(record + 2), table = half_at(record + 4);
     if (table)
         registers->take_back(registers->context, registers->table, table, 0);
-    registers->take_back(registers->context, call->memory, (size_t)lent * BLOCK, record[1]);
-    call->came = record[1] ? lent : 0;
+    registers->take_back(registers->context, call->memory, (size_t)blocks * BLOCK, record[1]);
+    call->came = record[1] ? blocks : 0;
 }
 
-/* What isn't an access of a register, which is what most records are. */
+/* What isn't an access of a register, which is what most records are. Lines of a table come after the blocks that it is of, and it is lent
+   after them. */
 APART static void tell_registers(struct kelifandro_call *call, const struct kelifandro_registers *registers, const uint8_t *record, size_t n)
 {
     switch (record[0]) {
-    case PAUSE:
+    case KELIFANDRO_PAUSE:
         registers->pause(registers->context, word_at(record + 1));
         break;
-    case LEND:
-        lend(call, registers, record);
+    case KELIFANDRO_AFTER:
+        call->memory = (uint8_t *)call->memory + (size_t)word_at(record + 1) * BLOCK;
         break;
-    case LINE:
-    case LAST_LINE:
-        put_line(call, registers, record, n);
+    case KELIFANDRO_LEND:
+        call->table_length = 0;
+        answer(call, registers->lend(registers->context, call->memory, (size_t)half_at(record + 2) * BLOCK, record[1]));
         break;
-    case LEND_TABLE:
-        lend_table(call, registers);
+    case KELIFANDRO_LINE:
+    case KELIFANDRO_LAST_LINE:
+        copy((uint8_t *)registers->table + call->table_length, record, n);
+        call->table_length += n;
         break;
-    case TAKE_BACK:
+    case KELIFANDRO_LEND_TABLE:
+        answer(call, registers->lend(registers->context, registers->table, call->table_length, 0));
+        break;
+    case KELIFANDRO_TAKE_BACK:
         take_memory_back(call, registers, record);
         break;
     }
 }
-#endif
 
 /* A record, or a block, which goes to the card's host or through the Buffer Data Port. */
 int64_t kelifandro_put(int32_t stream, const uint8_t *bytes, uint64_t n)
 {
     struct kelifandro *kelifandro = card_of(stream);
+    const struct kelifandro_registers *registers = kelifandro->registers;
     struct kelifandro_call *call = &kelifandro->call;
     call->came = 0;
     call->next = NOTHING;
-#ifndef KELIFANDRO_WITHOUT_REGISTERS
-    if (!is_by_host(kelifandro)) {
-        if (n == BLOCK)
-            write_by_port(kelifandro->registers, bytes);
-        else if (*bytes == READ_REGISTER)
-            read_register(call, kelifandro->registers, bytes);
-        else if (*bytes == WRITE_REGISTER)
-            write_register(call, kelifandro->registers, bytes);
-        else
-            tell_registers(call, kelifandro->registers, bytes, (size_t)n);
-        return (int64_t)n;
-    }
-#endif
-#ifndef KELIFANDRO_WITHOUT_HOST
-    if (n == BLOCK)
-        write_alone(call, kelifandro->host, bytes);
+    if (IS_BY_HOST(kelifandro))
+        tell_host(call, kelifandro->host, bytes, n);
+    else if (n == BLOCK)
+        write_by_port(registers, bytes);
+    else if (*bytes == KELIFANDRO_READ_REGISTER)
+        answer(call, registers->read(registers->context, bytes[2], bytes[1]));
+    else if (*bytes == KELIFANDRO_WRITE_REGISTER)
+        registers->write(registers->context, bytes[2], bytes[1], word_at(bytes + 3));
     else
-        tell_host(call, kelifandro->host, bytes);
-#endif
+        tell_registers(call, registers, bytes, (size_t)n);
     return (int64_t)n;
 }
 
 /* Whoever wants to show them has the registers that come as blocks: the SCR, and the EXT_CSD, which is what has the length of a sector in
    a call that reads none. */
-static void show(struct kelifandro *kelifandro, const uint8_t *bytes, size_t n)
+static void keep_register(struct kelifandro *kelifandro, const uint8_t *bytes, size_t n)
 {
     uint8_t *to = n == sizeof kelifandro->scr ? kelifandro->scr : n == BLOCK ? kelifandro->ext_csd : 0;
     if (to)
         copy(to, bytes, n);
 }
 
-/* The next block: a good one comes whole, a bad one as one byte and no more, or none. */
+/* The next block, or the one that is kept: a good one comes whole, a bad one as one byte and no more, or none. */
 APART static int64_t get_block(struct kelifandro *kelifandro, uint8_t *bytes, size_t n)
 {
     struct kelifandro_call *call = &kelifandro->call;
     int what = 0;
-#ifndef KELIFANDRO_WITHOUT_HOST
-    if (is_by_host(kelifandro))
-        what = read_alone(call, kelifandro->host, bytes, n);
-#endif
-#ifndef KELIFANDRO_WITHOUT_REGISTERS
-    if (!is_by_host(kelifandro))
+    if (IS_BY_HOST(kelifandro) && kelifandro->host->read_block) {
+        what = kelifandro->host->read_block(kelifandro->host->context, bytes, n);
+    } else if (IS_BY_HOST(kelifandro)) {
+        copy(bytes, call->block, n);
+        what = call->kept;
+        call->kept = 2;
+    } else {
         read_by_port(kelifandro->registers, bytes, n);
-#endif
+    }
     call->next = what == 1 ? END : NOTHING;
     if (what != 0)
         return what == 1;
     if (call->memory == call->block)
-        show(kelifandro, bytes, n);
+        keep_register(kelifandro, bytes, n);
     return (int64_t)n;
 }
 
-/* What came of a record, or a block; those that have come with a command are in their places already. */
+/* What came of a record, which has whole words, or a block; those that have come with a command are in their places already. */
 int64_t kelifandro_get(int32_t stream, uint8_t *bytes, uint64_t n)
 {
     struct kelifandro *kelifandro = card_of(stream);
@@ -458,10 +297,9 @@ int64_t kelifandro_get(int32_t stream, uint8_t *bytes, uint64_t n)
     call->next = NOTHING;
     if (next == END)
         return 0;
-    if (next == ANSWER && n == 4)
-        put_word(bytes, call->answer[0]);
-    else if (next == ANSWER)
-        give(bytes, call->answer, (size_t)n);
+    if (next == ANSWER)
+        for (size_t i = 0; i < (size_t)n / 4; i++)
+            put_word(bytes + 4 * i, call->answer[i]);
     else if (!call->came)
         return get_block(kelifandro, bytes, (size_t)n);
     else
@@ -469,26 +307,17 @@ int64_t kelifandro_get(int32_t stream, uint8_t *bytes, uint64_t n)
     return (int64_t)n;
 }
 
-static int has_way(const struct kelifandro *kelifandro)
-{
-    return is_by_host(kelifandro) ? kelifandro->host != 0 : kelifandro->registers != 0;
-}
-
-/* A number beyond all partitions names none. */
-static uint8_t part_number(enum kelifandro_part part)
-{
-    return (unsigned)part <= KELIFANDRO_GP4 ? (uint8_t)part : 255;
-}
-
 /* A call begins. Where no sector is named the memory isn't looked at, and may be a null pointer; the library wants one that isn't. */
-APART static struct kelifandro_way begin_call(struct kelifandro *kelifandro, const void *memory, uint64_t count)
+APART static struct kelifandro_way begin_call(struct kelifandro *kelifandro, place *at, const void *memory, uint64_t count)
 {
     struct kelifandro_call *call = &kelifandro->call;
+    struct kelifandro_way way = way_of(kelifandro);
+    way.stream = (uint32_t)(uintptr_t)at;
     call->memory = count ? (void *)memory : call->block;
     call->resets = (uint32_t)kelifandro->healed.resets;
     call->next = NOTHING;
     call->came = 0;
-    return way_of(kelifandro);
+    return way;
 }
 
 /* It ends. In two bytes of the card nothing is kept: the library may leave any there. */
@@ -500,213 +329,165 @@ APART static int32_t end_call(struct kelifandro *kelifandro, int32_t result)
     return result;
 }
 
-ON_STACK APART static int32_t open_once(struct kelifandro *kelifandro)
+ON_STACK int32_t kelifandro_open(struct kelifandro *kelifandro)
 {
     place at = kelifandro;
-    struct kelifandro_way way = begin_call(kelifandro, 0, 0);
-    return end_call(kelifandro, kelifandro_open_by(stream_of(&at), &way, &kelifandro->card, &kelifandro->healed));
-}
-
-/* Where the card's power can be switched it is on, and a card that isn't found has been without it once. */
-static int32_t open_with_power(struct kelifandro *kelifandro, const struct kelifandro_host *host)
-{
+    struct kelifandro_way way;
     int32_t result;
-    host->set_power(host->context, 1);
-    result = open_once(kelifandro);
-    if (result != KELIFANDRO_NO_CARD)
-        return result;
-    host->set_power(host->context, 0);
-    host->set_power(host->context, 1);
-    return open_once(kelifandro);
-}
-
-int32_t kelifandro_open(struct kelifandro *kelifandro)
-{
-    const struct kelifandro_host *host = is_by_host(kelifandro) ? kelifandro->host : 0;
-    int32_t result;
-    if (!has_way(kelifandro))
+    if (!is_given(kelifandro))
         return KELIFANDRO_NO_HOST;
     kelifandro->card.state = 0;
     for (size_t i = 0; i < sizeof kelifandro->scr; i++)
         kelifandro->scr[i] = 0;
     for (size_t i = 0; kelifandro->ext_csd && i < BLOCK; i++)
         kelifandro->ext_csd[i] = 0;
-    if (host && host->is_inserted && !host->is_inserted(host->context))
+    if (IS_BY_HOST(kelifandro) && kelifandro->host->is_inserted && !kelifandro->host->is_inserted(kelifandro->host->context))
         return KELIFANDRO_NOT_INSERTED;
-    result = host && host->set_power ? open_with_power(kelifandro, host) : open_once(kelifandro);
+    way = begin_call(kelifandro, &at, 0, 0);
+    result = end_call(kelifandro, kelifandro_open_by(&way, &kelifandro->card, &kelifandro->healed));
     kelifandro->was_reset = 0;
     return result;
 }
 
 ON_STACK void kelifandro_close(struct kelifandro *kelifandro)
 {
+    place at = kelifandro;
+    struct kelifandro_way way;
     kelifandro->card.state = 0;
-    if (!has_way(kelifandro))
+    if (!is_given(kelifandro))
         return;
-#ifndef KELIFANDRO_WITHOUT_REGISTERS
-    if (!is_by_host(kelifandro)) {
-        place at = kelifandro;
-        struct kelifandro_way way = begin_call(kelifandro, 0, 0);
-        kelifandro_close_by(stream_of(&at), &way);
-    }
-#endif
-    if (is_by_host(kelifandro) && kelifandro->host->set_power)
-        kelifandro->host->set_power(kelifandro->host->context, 0);
+    way = begin_call(kelifandro, &at, 0, 0);
+    kelifandro_close_by(&way);
 }
 
-/* Serves a request: by the kind of it, and its memory or none. It is answered here where there is no way, and in a small library where the
-   card is of a kind that isn't served; all else the proved library judges, first whether there is such a partition. */
-enum kind { READ, WRITE, ERASE, TRIM };
+/* Serves a request: by the kind of it, its memory or none, and where to tell how many sectors are done of one that may be long. */
+enum kind { READ, WRITE, READ_LONG, WRITE_LONG, ERASE, TRIM };
 
 ON_STACK APART static int32_t serve(struct kelifandro *kelifandro, enum kind kind, enum kelifandro_part part, uint64_t start, uint64_t count,
-                                    const void *bytes)
+                                    const void *bytes, size_t *done)
 {
     place at = kelifandro;
     struct kelifandro_way way;
     void *card = &kelifandro->card, *healed = &kelifandro->healed, *memory;
-    uint8_t number = part_number(part);
-    if (!has_way(kelifandro))
+    uint32_t number = (uint32_t)part;
+    uint64_t sectors = 0;
+    int32_t result;
+    if (done)
+        *done = 0;
+    if (!is_given(kelifandro))
         return KELIFANDRO_NO_HOST;
-    if (is_unserved(&kelifandro->card) && number <= KELIFANDRO_GP4)
-        return KELIFANDRO_NOT_OPEN;
-    way = begin_call(kelifandro, bytes, kind == READ || kind == WRITE ? count : 0);
+    way = begin_call(kelifandro, &at, bytes, kind < ERASE ? count : 0);
     memory = kelifandro->call.memory;
     switch (kind) {
 #ifndef KELIFANDRO_WITHOUT_WRITE
     case WRITE:
-        return end_call(kelifandro, kelifandro_write_by(stream_of(&at), &way, card, healed, number, start, memory, at_most(count)));
+        result = kelifandro_write_by(&way, card, healed, number, start, memory, count);
+        break;
+    case WRITE_LONG:
+        result = kelifandro_write_long_by(&way, card, healed, number, start, memory, count, &sectors);
+        break;
 #endif
 #ifndef KELIFANDRO_WITHOUT_ERASE
     case ERASE:
-        return end_call(kelifandro, kelifandro_erase_by(stream_of(&at), &way, card, healed, number, start, count));
+        result = kelifandro_erase_by(&way, card, healed, number, start, count);
+        break;
     case TRIM:
-        return end_call(kelifandro, kelifandro_trim_by(stream_of(&at), &way, card, healed, number, start, count));
+        result = kelifandro_trim_by(&way, card, healed, number, start, count);
+        break;
 #endif
+    case READ_LONG:
+        result = kelifandro_read_long_by(&way, card, healed, number, start, memory, count, &sectors);
+        break;
     default:
-        return end_call(kelifandro, kelifandro_read_by(stream_of(&at), &way, card, healed, number, start, memory, at_most(count)));
+        result = kelifandro_read_by(&way, card, healed, number, start, memory, count);
     }
+    if (done)
+        *done = (size_t)sectors;
+    return end_call(kelifandro, result);
 }
 
 int32_t kelifandro_read(struct kelifandro *kelifandro, enum kelifandro_part part, uint64_t start, size_t count, void *bytes)
 {
-    return serve(kelifandro, READ, part, start, count, bytes);
+    return serve(kelifandro, READ, part, start, count, bytes, 0);
+}
+
+int32_t kelifandro_read_long(struct kelifandro *kelifandro, enum kelifandro_part part, uint64_t start, size_t count, void *bytes,
+                             size_t *done)
+{
+    return serve(kelifandro, READ_LONG, part, start, count, bytes, done);
 }
 
 #ifndef KELIFANDRO_WITHOUT_WRITE
-int32_t kelifandro_write(struct kelifandro *kelifandro, enum kelifandro_part part, uint64_t start, size_t count,
-                         const void *bytes)
+int32_t kelifandro_write(struct kelifandro *kelifandro, enum kelifandro_part part, uint64_t start, size_t count, const void *bytes)
 {
-    return serve(kelifandro, WRITE, part, start, count, bytes);
+    return serve(kelifandro, WRITE, part, start, count, bytes, 0);
+}
+
+int32_t kelifandro_write_long(struct kelifandro *kelifandro, enum kelifandro_part part, uint64_t start, size_t count,
+                              const void *bytes, size_t *done)
+{
+    return serve(kelifandro, WRITE_LONG, part, start, count, bytes, done);
 }
 #endif
 
 #ifndef KELIFANDRO_WITHOUT_ERASE
 int32_t kelifandro_erase(struct kelifandro *kelifandro, enum kelifandro_part part, uint64_t start, uint64_t count)
 {
-    return serve(kelifandro, ERASE, part, start, count, 0);
+    return serve(kelifandro, ERASE, part, start, count, 0, 0);
 }
 
 int32_t kelifandro_trim(struct kelifandro *kelifandro, enum kelifandro_part part, uint64_t start, uint64_t count)
 {
-    return serve(kelifandro, TRIM, part, start, count, 0);
+    return serve(kelifandro, TRIM, part, start, count, 0, 0);
 }
 #endif
 
-/* What a request may name of a longer one: where a table of memory names less, what it names by lines of 12 bytes. */
-static size_t longest(const struct kelifandro *kelifandro)
+uint64_t kelifandro_sectors(const struct kelifandro *kelifandro, enum kelifandro_part part)
 {
-    const struct kelifandro_registers *registers = is_by_host(kelifandro) ? 0 : kelifandro->registers;
-    size_t lines = registers && registers->lend ? registers->table_size / 12 : 0;
-    return lines && lines <= MOST / 64 ? 64 * lines : MOST;
+    struct kelifandro_way way;
+    if (!is_given(kelifandro))
+        return 0;
+    way = way_of(kelifandro);
+    return kelifandro_sectors_by(&way, &kelifandro->card, (uint32_t)part);
 }
 
-/* Reads or writes any number of sectors, none where they don't all lie in the partition. */
-static int32_t in_parts(struct kelifandro *kelifandro, enum kind kind, enum kelifandro_part part, uint64_t start, size_t count,
-                        const uint8_t *bytes, size_t *done)
+/* What a bit of Present State says; where there is always a card, that it is there and may be written to. */
+static int32_t is_shown(const struct kelifandro_registers *registers, int bit)
 {
-    uint64_t size = kelifandro_sectors(kelifandro, part);
-    size_t sectors = 0, most = longest(kelifandro);
-    int32_t result = size && (start > size || count > size - start) ? KELIFANDRO_OUT_OF_RANGE : KELIFANDRO_DONE;
-    while (result == KELIFANDRO_DONE && (sectors < count || count == 0)) {
-        size_t n = count - sectors < most ? count - sectors : most;
-        result = serve(kelifandro, kind, part, start + sectors, n, count ? bytes + 512 * sectors : bytes);
-        sectors += result == KELIFANDRO_DONE ? n : 0;
-    }
-    if (done)
-        *done = sectors;
-    return result;
-}
-
-int32_t kelifandro_read_long(struct kelifandro *kelifandro, enum kelifandro_part part, uint64_t start, size_t count, void *bytes,
-                             size_t *done)
-{
-    return in_parts(kelifandro, READ, part, start, count, bytes, done);
-}
-
-#ifndef KELIFANDRO_WITHOUT_WRITE
-int32_t kelifandro_write_long(struct kelifandro *kelifandro, enum kelifandro_part part, uint64_t start, size_t count,
-                              const void *bytes, size_t *done)
-{
-    return in_parts(kelifandro, WRITE, part, start, count, bytes, done);
-}
-#endif
-
-/* What a function of the host says, where there is one; else a bit of Present State: where there is always a card, that it is there and may
-   be written to. */
-APART static int32_t is_present(const struct kelifandro *kelifandro, int (*told)(void *context), int bit, int is_turned)
-{
-    const struct kelifandro_registers *registers = kelifandro->registers;
-    if (!has_way(kelifandro))
-        return KELIFANDRO_NO_HOST;
-    if (is_by_host(kelifandro))
-        return told ? told(kelifandro->host->context) != 0 : KELIFANDRO_NO_HOST;
-    return (registers->is_there || registers->read(registers->context, PRESENT_STATE, 4) >> bit & 1) ^ is_turned;
+    return registers->is_there || registers->read(registers->context, PRESENT_STATE, 4) >> bit & 1;
 }
 
 int32_t kelifandro_is_inserted(const struct kelifandro *kelifandro)
 {
-    return is_present(kelifandro, kelifandro->host ? kelifandro->host->is_inserted : 0, 16, 0);
+    const struct kelifandro_host *host = kelifandro->host;
+    if (host ? !host->is_inserted : !kelifandro->registers)
+        return KELIFANDRO_NO_HOST;
+    return host ? host->is_inserted(host->context) != 0 : is_shown(kelifandro->registers, 16);
 }
 
-/* Bit 19 says that a card may be written to. */
 int32_t kelifandro_is_write_protected(const struct kelifandro *kelifandro)
 {
-    return is_present(kelifandro, kelifandro->host ? kelifandro->host->is_write_protected : 0, 19, 1);
-}
-
-/* The sizes follow each other, and both boot partitions have one. */
-uint64_t kelifandro_sectors(const struct kelifandro *kelifandro, enum kelifandro_part part)
-{
-    const struct kelifandro_card *card = &kelifandro->card;
-    unsigned number = (unsigned)part;
-    if (card->state < 1 || card->state > 3 || number > KELIFANDRO_GP4 || is_unserved(card))
-        return 0;
-    number -= number > KELIFANDRO_BOOT1;
-    return *(const uint64_t *)((const uint8_t *)card + offsetof(struct kelifandro_card, user) + 8 * number);
+    const struct kelifandro_host *host = kelifandro->host;
+    if (host ? !host->is_write_protected : !kelifandro->registers)
+        return KELIFANDRO_NO_HOST;
+    return host ? host->is_write_protected(host->context) != 0 : !is_shown(kelifandro->registers, 19);
 }
 
 const char *kelifandro_text(int32_t result)
 {
     static const char *const texts[] = {
-        [-KELIFANDRO_DONE] = "done",
-        [-KELIFANDRO_NOT_OPEN] = "the card isn't open",
+        [-KELIFANDRO_DONE] = "done", [-KELIFANDRO_NOT_OPEN] = "the card isn't open",
         [-KELIFANDRO_NO_PARTITION] = "the card has no such partition",
-        [-KELIFANDRO_OUT_OF_RANGE] = "sectors past the partition's end",
-        [-KELIFANDRO_COUNT] = "no sector, or more than 65,535",
+        [-KELIFANDRO_OUT_OF_RANGE] = "sectors past the partition's end", [-KELIFANDRO_COUNT] = "no sector, or more than 65,535",
         [-KELIFANDRO_READ_ONLY] = "the card is write protected",
         [-KELIFANDRO_NOT_ERASABLE] = "the card can't erase these sectors so",
-        [-KELIFANDRO_NO_HOST] = "neither a host nor registers are given",
-        [-KELIFANDRO_FAILED_ANSWER] = "failed: a response",
-        [-KELIFANDRO_FAILED_DATA] = "failed: a block",
-        [-KELIFANDRO_FAILED_STATUS] = "failed: the card's status",
-        [-KELIFANDRO_FAILED_BUSY] = "failed: busy for too long",
-        [-KELIFANDRO_FAILED_RECOVERY] = "failed: recovery",
-        [-KELIFANDRO_NO_CARD] = "no card answers",
-        [-KELIFANDRO_UNSUPPORTED] = "the card isn't supported",
+        [-KELIFANDRO_NO_HOST] = "neither a host nor registers are given", [-KELIFANDRO_FAILED_ANSWER] = "failed: a response",
+        [-KELIFANDRO_FAILED_DATA] = "failed: a block", [-KELIFANDRO_FAILED_STATUS] = "failed: the card's status",
+        [-KELIFANDRO_FAILED_BUSY] = "failed: busy for too long", [-KELIFANDRO_FAILED_RECOVERY] = "failed: recovery",
+        [-KELIFANDRO_NO_CARD] = "no card answers", [-KELIFANDRO_UNSUPPORTED] = "the card isn't supported",
         [-KELIFANDRO_NO_VOLTAGE] = "the controller has no 3.3 V",
         [-KELIFANDRO_NO_BASE_CLOCK] = "the controller doesn't tell its base clock",
-        [-KELIFANDRO_NOT_INSERTED] = "no card is inserted",
-        [-KELIFANDRO_CARD_VOLTAGE] = "the card doesn't work at 3.3 V",
+        [-KELIFANDRO_NOT_INSERTED] = "no card is inserted", [-KELIFANDRO_CARD_VOLTAGE] = "the card doesn't work at 3.3 V",
         [-KELIFANDRO_LOCKED] = "the card is locked",
     };
     const char *text = result <= 0 && result >= KELIFANDRO_LOCKED ? texts[-result] : 0;

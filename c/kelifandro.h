@@ -14,7 +14,7 @@
    or new and all others unchanged. What is trusted: kelifandro.c, your functions, that each of them returns, and that pointers lead to room
    which is there.
 
-   The library needs memcpy and memset, of the compiler's own library its arithmetic (a division of 64 bits, on 32), and less than 9 KiB
+   The library needs memcpy and memset, of the compiler's own library its arithmetic (a division of 64 bits, on 32), and less than 10 KiB
    of stack (README has it by processor). It keeps to general registers, but that of x86_64, which uses SSE4.2 and the red zone below the
    stack pointer: an interrupt has to keep the former and run on another stack, or leave 128 bytes alone; x86_64-kernel uses neither.
 
@@ -157,7 +157,8 @@ struct kelifandro_host {
 };
 
 /* Why `send` heard no response; any other number but 0 is as a timeout. Each is a response that was lost: who can't tell gives
-   KELIFANDRO_TIMEOUT. */
+   KELIFANDRO_TIMEOUT. It is the response's alone: whose controller tells of the response and of the blocks by one number answers 0 once
+   the response has come, and tells of the blocks in `moved`, or by read_block and write_block. */
 enum kelifandro_fault { KELIFANDRO_TIMEOUT = 1, KELIFANDRO_BAD_CHECK, KELIFANDRO_BAD_END_BIT, KELIFANDRO_OTHER_INDEX };
 
 /* The registers of an SD host controller. Accesses have 1 or 4 bytes, lie in one word of 4, and reach the controller in order. */
@@ -190,6 +191,7 @@ struct kelifandro_registers {
     void *table;
     size_t table_size;
     /* What a board knows in place of its controller; 0 is as the registers say. */
+    uint8_t lines;         /* 1: one data line alone is wired; otherwise four, or eight where Capabilities say so */
     uint8_t is_there;      /* 1: there is always a card, that may be written to: it is soldered, or the slot's switches aren't wired */
     uint8_t is_by_words;   /* 1: the controller takes 32-bit accesses alone: `size` is 4 then, and `offset` a multiple of 4 */
     uint32_t capabilities; /* where it isn't 0, in place of all of Capabilities (40h): the base clock in MHz in bits 15 to 8, rounded up, and
@@ -250,7 +252,7 @@ struct kelifandro_healed {
 struct kelifandro_call {
     uint32_t resets; /* that were counted before, the lower half */
     uint16_t came;   /* so many blocks have come with a command, or by DMA */
-    uint8_t next, index;
+    uint8_t next;
     void *memory; /* of the request */
     size_t table_length;
     int kept; /* whether a block is kept that came with a command */

@@ -1,33 +1,84 @@
-/* What kelifandro.c and the proved library call of each other, with the same widths on every processor. Not for users: theirs is
-   kelifandro.h.
-
-   `stream` is a number of the caller's choice, which comes back with each record of the call, as a signed one. `way` is a struct
-   kelifandro_way, `card` a struct kelifandro_card, `healed` a struct kelifandro_healed, `blocks` so many blocks of 512 bytes. All
-   pointers lead to something, also that of no blocks. */
+/* What kelifandro.c and the proved library say to each other, with the same widths on every processor. Not for users: theirs is
+   kelifandro.h. */
 #ifndef KELIFANDRO_CORE_H
 #define KELIFANDRO_CORE_H
+#include <stddef.h>
 #include <stdint.h>
 
-/* The way to a card (crates/c_host/src/given.rt): `by` is 0 for a host, which has so many lines and high speed or not; else registers,
-   with what a board knows in place of the controller, whether memory is lent, and how many bytes a table may have. */
+/* The way to a card (crates/c_host/src/given.rt). `stream` is a number of the caller's choice, which comes back with each record of the
+   call. `by` is 0 for a host, which has so many lines, and high speed, and switches the card's power, or not; else registers, of which one
+   line alone is wired or more, with what a board knows in place of the controller, whether memory is lent, and how many bytes a table may
+   have. Without a kind of card none of that kind is ever asked whether it is ready. */
 struct kelifandro_way {
-    uint32_t capabilities;
+    uint32_t stream, capabilities;
     uint16_t table_size;
-    uint8_t by, lines, high_speed, is_there, is_by_words, lends;
+    uint8_t by, lines, high_speed, is_there, is_by_words, lends, switches_power, without_sd, without_mmc;
 };
 
 /* Of kelifandro.c. The library puts a record of an operation, or a block, and gets what came of it: both answer how many bytes. */
 int64_t kelifandro_put(int32_t stream, const uint8_t *bytes, uint64_t n);
 int64_t kelifandro_get(int32_t stream, uint8_t *bytes, uint64_t n);
 
-/* Of the library. Each but the last answers an enum kelifandro_result. */
-int32_t kelifandro_open_by(uint32_t stream, const void *way, void *card, void *healed);
-int32_t kelifandro_read_by(uint32_t stream, const void *way, void *card, void *healed, uint8_t part, uint64_t start, void *blocks,
-                           uint64_t count);
-int32_t kelifandro_write_by(uint32_t stream, const void *way, void *card, void *healed, uint8_t part, uint64_t start, const void *blocks,
-                            uint64_t count);
-int32_t kelifandro_erase_by(uint32_t stream, const void *way, void *card, void *healed, uint8_t part, uint64_t start, uint64_t count);
-int32_t kelifandro_trim_by(uint32_t stream, const void *way, void *card, void *healed, uint8_t part, uint64_t start, uint64_t count);
-void kelifandro_close_by(uint32_t stream, const void *way);
+/* The records (crates/c_host/src/records.rt), by their first bytes. A block has no record: it is put, and its status got, or it is got. */
+enum kelifandro_record {
+    KELIFANDRO_SEND = 1,
+    KELIFANDRO_LOOK = 4,
+    KELIFANDRO_SET_IOS,
+    KELIFANDRO_PAUSE,
+    KELIFANDRO_POWER,
+    KELIFANDRO_READ_REGISTER,
+    KELIFANDRO_WRITE_REGISTER,
+    KELIFANDRO_READ_WITH,
+    KELIFANDRO_WRITE_WITH,
+    KELIFANDRO_AFTER,
+    KELIFANDRO_LEND = 14,
+    KELIFANDRO_TAKE_BACK = 17,
+    KELIFANDRO_LEND_TABLE,
+    /* a line of a table begins with its attributes: one of several, and the last */
+    KELIFANDRO_LINE = 0x21,
+    KELIFANDRO_LAST_LINE = 0x23
+};
+
+/* Of the library: `way` is a struct kelifandro_way, `card` a struct kelifandro_card, `healed` a struct kelifandro_healed, `part` an enum
+   kelifandro_part, `blocks` so many blocks of 512 bytes, `done` a uint64_t, which tells how many of them are done. All pointers lead to
+   something, also that of no blocks. What is answered as an int32_t is an enum kelifandro_result. */
+int32_t kelifandro_open_by(const void *way, void *card, void *healed);
+int32_t kelifandro_read_by(const void *way, void *card, void *healed, uint32_t part, uint64_t start, void *blocks, uint64_t count);
+int32_t kelifandro_write_by(const void *way, void *card, void *healed, uint32_t part, uint64_t start, const void *blocks, uint64_t count);
+int32_t kelifandro_read_long_by(const void *way, void *card, void *healed, uint32_t part, uint64_t start, void *blocks, uint64_t count,
+                                void *done);
+int32_t kelifandro_write_long_by(const void *way, void *card, void *healed, uint32_t part, uint64_t start, const void *blocks,
+                                 uint64_t count, void *done);
+int32_t kelifandro_erase_by(const void *way, void *card, void *healed, uint32_t part, uint64_t start, uint64_t count);
+int32_t kelifandro_trim_by(const void *way, void *card, void *healed, uint32_t part, uint64_t start, uint64_t count);
+uint64_t kelifandro_sectors_by(const void *way, const void *card, uint32_t part);
+void kelifandro_close_by(const void *way);
+
+#ifdef KELIFANDRO_H
+/* The library knows these structs by their places (crates/mmc_record/src/record.rt, crates/mmc_recovery/src/healed.rt), the lowest byte of
+   a number first. An array of -1 is refused on any processor where that isn't so. */
+#define KELIFANDRO_IS_SO(name, is_so) typedef char kelifandro_##name##_is_there[(is_so) ? 1 : -1]
+#define KELIFANDRO_HAS_PLACE(field, place) KELIFANDRO_IS_SO(field, offsetof(struct kelifandro_card, field) == (place))
+KELIFANDRO_HAS_PLACE(state, 0);
+KELIFANDRO_HAS_PLACE(cause, 11);
+KELIFANDRO_HAS_PLACE(rca, 12);
+KELIFANDRO_HAS_PLACE(cid, 14);
+KELIFANDRO_HAS_PLACE(csd, 30);
+KELIFANDRO_HAS_PLACE(unused, 46);
+KELIFANDRO_HAS_PLACE(user, 48);
+KELIFANDRO_HAS_PLACE(boot, 56);
+KELIFANDRO_HAS_PLACE(gp1, 64);
+KELIFANDRO_HAS_PLACE(gp4, 88);
+KELIFANDRO_HAS_PLACE(erase_unit, 96);
+KELIFANDRO_IS_SO(card, sizeof(struct kelifandro_card) == 104);
+KELIFANDRO_IS_SO(by_recovery, offsetof(struct kelifandro_healed, by_recovery) == 40);
+KELIFANDRO_IS_SO(resets, offsetof(struct kelifandro_healed, resets) == 56);
+KELIFANDRO_IS_SO(healed, sizeof(struct kelifandro_healed) == 64);
+KELIFANDRO_IS_SO(part, sizeof(enum kelifandro_part) == 4);
+KELIFANDRO_IS_SO(way, sizeof(struct kelifandro_way) == 20);
+#if defined __BYTE_ORDER__ && __BYTE_ORDER__ != __ORDER_LITTLE_ENDIAN__
+#error "struct kelifandro_card has the lowest byte of a number first: this processor has the highest first"
+#endif
+#endif
 
 #endif

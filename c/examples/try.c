@@ -166,6 +166,17 @@ static void refusals(enum way way)
     expect(card.told == told, "the host is told nothing", way);
 }
 
+/* Of a controller one data line alone is wired: a card isn't switched to more. */
+static void one_line(int is_emmc)
+{
+    begin(is_emmc, SEVERAL_BLOCKS);
+    registers.lines = 1;
+    expect(kelifandro_open(&sd) == KELIFANDRO_DONE && sd.card.lines == 1, "one line", (unsigned long)is_emmc);
+    expect(kelifandro_write(&sd, KELIFANDRO_USER, 3, 2, data) == KELIFANDRO_DONE, "written by one line", (unsigned long)is_emmc);
+    expect(kelifandro_read(&sd, KELIFANDRO_USER, 3, 2, back) == KELIFANDRO_DONE && memcmp(back, data, 1024) == 0, "read by one line",
+           (unsigned long)is_emmc);
+}
+
 static void lost_ways(void)
 {
     begin(0, HOST);
@@ -426,6 +437,7 @@ int main(int words, char **word)
     slow_and_gone();
     slot();
     within_each_other();
+    one_line(0), one_line(1);
     lost_ways();
     clocks();
     beyond_reach();

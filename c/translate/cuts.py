@@ -1,17 +1,18 @@
 """What a small library is built without: functions of the proved library that nothing reaches any more.
 
 Who builds without a way to the card, a kind of card or a request never comes to what stands here by its name in Rattle: kelifandro.c goes
-the other way alone, answers a card of that kind that it isn't ready, and has no such request. So a trap takes the place of their bodies,
+the other way alone and has no such request, and by struct kelifandro_way no card of that kind is asked whether it is ready. So a trap
+takes the place of their bodies,
 and the compiler finds what nobody needs then."""
 import re
 
 CUTS = {
-    'host': [r'c_host::stream::Stream::(set_ios|send|is_busy|read_block|write_block|read_with|write_with|send_with)\b'],
-    'registers': [r'mmc_sdhci::sdhci::Sdhci', r'kelifandro_close_by$'],
+    'host': [r'c_host::stream::Stream::(set_ios|set_power|send|is_busy|read_block|write_block|read_with|write_with|send_with)\b'],
+    'registers': [r'mmc_sdhci::sdhci::Sdhci'],
     'mmc': [r'mmc_identify::mmc::assign\b', r'mmc_switch::mmc::(widen|switch)\b', r'mmc_switch::registers::mmc_info\b'],
     'sd': [r'mmc_identify::sd::publish\b', r'mmc_switch::sd::widen\b', r'mmc_switch::registers::sd_info\b'],
     'erase': [r'kelifandro_(erase|trim)_by$'],
-    'write': [r'kelifandro_(write|erase|trim)_by$'],
+    'write': [r'kelifandro_(write|write_long|erase|trim)_by$'],
 }
 DEFINITION = re.compile(r'define .*?@(?:"([^"]*)"|(\w+))\(')
 

@@ -560,12 +560,11 @@ static void give_up(enum kelifandro_part part, uint64_t start, uint64_t count)
 
 static void one_call(void)
 {
-    enum kelifandro_part part = (enum kelifandro_part)(one_in(3) ? any() % 9 : 0);
+    enum kelifandro_part part = (enum kelifandro_part)(one_in(3) ? any() % 9 : one_in(20) ? any() : 0); /* from 7 on there is none */
     uint64_t start = drawn_start(kelifandro_sectors(&sd, part));
-    size_t count = one_in(12) ? any() % LONGEST : one_in(40) ? 1023 + any() % 3 : one_in(40) ? 65536 + any() % 3 : 1 + any() % 9;
+    size_t done, count = one_in(12) ? any() % LONGEST : one_in(40) ? 1023 + any() % 3 : one_in(40) ? 65536 + any() % 3 : 1 + any() % 9;
     if (one_in(4))
         start = kelifandro_sectors(&sd, part) - count;
-    trace_no_part = (uint8_t)(7 + any() % 249);
     if (one_in(12))
         draw_limits();
     if (one_in(200))
@@ -594,6 +593,13 @@ static void one_call(void)
     case 7:
     case 8:
         kelifandro_write(&sd, part, start, count, memory);
+        break;
+    case 9:
+        count %= LONGEST; /* there is no more memory */
+        if (one_in(2))
+            kelifandro_write_long(&sd, part, start, count, memory, &done);
+        else
+            kelifandro_read_long(&sd, part, start, count, memory, &done);
         break;
     default:
         kelifandro_read(&sd, part, start, count, memory);

@@ -15,9 +15,6 @@
 /* Bytes of struct kelifandro_card that mean nothing. */
 enum { PADDING = 46, PADDING_END = 48 };
 
-/* kelifandro.c gives this for a partition that it has no number of. */
-enum { NO_PART = 255 };
-
 static uint64_t hash = 1469598103934665603u;
 static unsigned long passed;
 
@@ -51,7 +48,6 @@ static uint64_t put_again;
 static uint8_t kept[512 * 65535];
 static uint64_t kept_from, kept_to;
 int trace_pieces;
-uint8_t trace_no_part = NO_PART;
 
 static uint32_t any(void)
 {
@@ -115,41 +111,53 @@ WRAPPED(int64_t, kelifandro_get, (int32_t stream, uint8_t *record, uint64_t n))
     return got;
 }
 
-static uint8_t part_of(uint8_t part)
+WRAPPED(int32_t, kelifandro_open_by, (const void *way, void *card, void *healed))
 {
-    return part == NO_PART ? trace_no_part : part;
-}
-
-WRAPPED(int32_t, kelifandro_open_by, (uint32_t stream, const void *way, void *card, void *healed))
-{
-    return ended(__real_kelifandro_open_by(stream, way, card, healed), card, healed);
+    return ended(__real_kelifandro_open_by(way, card, healed), card, healed);
 }
 
 WRAPPED(int32_t, kelifandro_read_by,
-        (uint32_t stream, const void *way, void *card, void *healed, uint8_t part, uint64_t start, void *blocks, uint64_t count))
+        (const void *way, void *card, void *healed, uint32_t part, uint64_t start, void *blocks, uint64_t count))
 {
-    int32_t result = ended(__real_kelifandro_read_by(stream, way, card, healed, part_of(part), start, blocks, count), card, healed);
+    int32_t result = ended(__real_kelifandro_read_by(way, card, healed, part, start, blocks, count), card, healed);
     if (result == KELIFANDRO_DONE)
         bytes(blocks, 512 * count);
     return result;
 }
 
 WRAPPED(int32_t, kelifandro_write_by,
-        (uint32_t stream, const void *way, void *card, void *healed, uint8_t part, uint64_t start, const void *blocks, uint64_t count))
+        (const void *way, void *card, void *healed, uint32_t part, uint64_t start, const void *blocks, uint64_t count))
 {
-    return ended(__real_kelifandro_write_by(stream, way, card, healed, part_of(part), start, blocks, count), card, healed);
+    return ended(__real_kelifandro_write_by(way, card, healed, part, start, blocks, count), card, healed);
+}
+
+WRAPPED(int32_t, kelifandro_read_long_by,
+        (const void *way, void *card, void *healed, uint32_t part, uint64_t start, void *blocks, uint64_t count, void *done))
+{
+    int32_t result = ended(__real_kelifandro_read_long_by(way, card, healed, part, start, blocks, count, done), card, healed);
+    bytes(done, 8);
+    bytes(blocks, 512 * *(uint64_t *)done);
+    return result;
+}
+
+WRAPPED(int32_t, kelifandro_write_long_by,
+        (const void *way, void *card, void *healed, uint32_t part, uint64_t start, const void *blocks, uint64_t count, void *done))
+{
+    int32_t result = ended(__real_kelifandro_write_long_by(way, card, healed, part, start, blocks, count, done), card, healed);
+    bytes(done, 8);
+    return result;
 }
 
 WRAPPED(int32_t, kelifandro_erase_by,
-        (uint32_t stream, const void *way, void *card, void *healed, uint8_t part, uint64_t start, uint64_t count))
+        (const void *way, void *card, void *healed, uint32_t part, uint64_t start, uint64_t count))
 {
-    return ended(__real_kelifandro_erase_by(stream, way, card, healed, part_of(part), start, count), card, healed);
+    return ended(__real_kelifandro_erase_by(way, card, healed, part, start, count), card, healed);
 }
 
 WRAPPED(int32_t, kelifandro_trim_by,
-        (uint32_t stream, const void *way, void *card, void *healed, uint8_t part, uint64_t start, uint64_t count))
+        (const void *way, void *card, void *healed, uint32_t part, uint64_t start, uint64_t count))
 {
-    return ended(__real_kelifandro_trim_by(stream, way, card, healed, part_of(part), start, count), card, healed);
+    return ended(__real_kelifandro_trim_by(way, card, healed, part, start, count), card, healed);
 }
 
 static void tell(void) __attribute__((destructor));

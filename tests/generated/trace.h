@@ -6,7 +6,5 @@
 /* Whether what is put and got goes in pieces at times, and is answered by numbers that kelifandro.c doesn't answer: the library takes any.
    0 at first. */
 extern int trace_pieces;
-/* What stands for kelifandro.c's number of a partition that isn't there, 255: any number from 7 on is none. */
-extern uint8_t trace_no_part;
 
 #endif

@@ -2,11 +2,14 @@
 use Rattle.std.specs.Prelude.{◌==◌, ◌≡◌, [], None, Option, Some, if◌then◌else◌, not, ℕ, ℤ}
 use Rattle.mmc_card.specs.declared.exchange.Lines.{Lines}
 use Rattle.mmc_card.specs.declared.exchange.Timing.TheVariants.{Default, High}
+use Rattle.mmc_card.specs.declared.exchange.Width.{Width}
 use Rattle.mmc_card.specs.declared.exchange.Width.TheVariants.{Eight, Four, One}
 use Rattle.sdhci_board.specs.declared.known.Slot.{Slot}
 use Rattle.sdhci_board.specs.declared.known.Slot.TheVariants.{AlwaysThere, Wired}
 use Rattle.c_host.specs.declared.given.WayRecord.{WayRecord}
+use Rattle.c_host.specs.declared.kinds.Kinds.{Kinds}
 use Rattle.c_host.specs.declared.registers.CRegisters.{CRegisters}
+use Rattle.c_host.specs.declared.way.CFunctions.{CFunctions}
 use Rattle.c_host.specs.declared.stream.Stream.{Stream}
 use Rattle.c_host.specs.declared.way.Given.{Given}
 use Rattle.c_host.specs.declared.way.Given.TheVariants.{Host, Registers}
@@ -25,22 +28,38 @@ slot_by is_there = if is_there == 0 then Wired else AlwaysThere
 abbrev pub capabilities_by : ℕ → Option ℕ
 capabilities_by capabilities = if capabilities == 0 then None else Some capabilities
 
+-- the kinds of card that are served
+abbrev pub kinds_by : WayRecord → Kinds
+kinds_by way = record { sd = way.without_sd == 0; mmc = way.without_mmc == 0 }
+
+-- the most data lines, as far as a controller doesn't say
+abbrev pub most_by : WayRecord → Width
+most_by way = if way.lines == 1 then One else Eight
+
 -- the stream with this number, over which C was told nothing yet
 abbrev pub IsNew : ℤ → Stream → Type 0
 IsNew number stream = (stream.number ≡ number) × (stream.diary.past ≡ [])
 
 -- The registers of such a way, over a new stream: nothing is lent.
-pub record HasRegisters (number : ℤ) (way : WayRecord) (registers : CRegisters) : Type 0 where
-  pub stream : IsNew number registers.stream
+pub record HasRegisters (way : WayRecord) (registers : CRegisters) : Type 0 where
+  pub stream : IsNew way.stream registers.stream
   pub slot : registers.known.slot ≡ slot_by way.is_there
   pub capabilities : registers.known.capabilities ≡ capabilities_by way.capabilities
   pub words : registers.is_by_words ≡ not (way.is_by_words == 0)
   pub lends : registers.lends ≡ not (way.lends == 0)
   pub room : registers.room ≡ way.table_size
+  pub kinds : registers.kinds ≡ kinds_by way
   pub lent : registers.lent ≡ None
 
--- 0 is a host with these lines, anything else registers
-abbrev pub IsGiven : ℤ → WayRecord → Given CRegisters → Type 0
-IsGiven number way (Host functions) =
-    (way.by ≡ 0) × IsNew number functions.stream × (functions.limits ≡ lines_by way.lines way.high_speed)
-IsGiven number way (Registers registers) = (way.by ≡ 0 → ⊥) × HasRegisters number way registers
+-- The functions of such a way, over a new stream.
+pub record HasFunctions (way : WayRecord) (functions : CFunctions) : Type 0 where
+  pub stream : IsNew way.stream functions.stream
+  pub limits : functions.limits ≡ lines_by way.lines way.high_speed
+  pub power : functions.has_power ≡ not (way.switches_power == 0)
+  pub kinds : functions.kinds ≡ kinds_by way
+
+-- 0 is a host, anything else registers
+abbrev pub IsGiven : WayRecord → Given CRegisters → Type 0
+IsGiven way (Host functions) =
+    (way.by ≡ 0) × HasFunctions way functions
+IsGiven way (Registers registers) = (way.by ≡ 0 → ⊥) × HasRegisters way registers

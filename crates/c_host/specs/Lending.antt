@@ -2,6 +2,7 @@
 use Rattle.std.specs.Int.{from_le_bytes, to_le_bytes, w16, w64}
 use Rattle.std.specs.Prelude.{◌%◌, ◌&&◌, ◌*◌, ◌+◌, ◌++◌, ◌==◌, ◌^◌, ◌||◌, ◌∷◌, ◌≡◌, [], Bool, List, None, Option, Some}
 use Rattle.std.specs.Prelude.{false, if◌then◌else◌, nat_le, not, suc, take, true, zero, ℕ}
+use Rattle.mmc_card.specs.CardAnswer.{bit}
 use Rattle.mmc_sdhci.specs.Tables.{line_at, lines_for}
 use Rattle.mmc_sdhci.specs.declared.tables.Table.{Table}
 use Rattle.c_host.specs.Talk.{Talk, last_count}
@@ -9,17 +10,13 @@ use Rattle.c_host.specs.Talk.Talk.{Asked, Came, Told}
 use Rattle.c_host.specs.declared.lending.Lent.{Lent}
 use Rattle.c_host.specs.declared.registers.CRegisters.{CRegisters}
 
-abbrev pub flag : Bool → ℕ
-flag false = 0
-flag true = 1
-
 -- Memory for so many blocks is wanted, to be written to or read.
 abbrev pub lending_record : Bool → ℕ → List ℕ
-lending_record is_room count = 14 ∷ flag is_room ∷ take 2 (to_le_bytes w64 count)
+lending_record is_room count = 14 ∷ bit is_room ∷ take 2 (to_le_bytes w64 count)
 
 -- What was lent is taken back: so many blocks, and so many bytes of a table.
 abbrev pub back_record : Lent → List ℕ
-back_record lent = 17 ∷ flag lent.is_room ∷ (lent.count ++ to_le_bytes w16 lent.table)
+back_record lent = 17 ∷ bit lent.is_room ∷ (lent.count ++ to_le_bytes w16 lent.table)
 
 abbrev pub taken_back : Option Lent → List Talk → List Talk
 taken_back None past = past

@@ -1,6 +1,8 @@
 pub mod Given
+pub mod Kinds
 pub mod Lending
 pub mod Noted
+pub mod Powers
 pub mod Records
 pub mod Registers
 pub mod Run

@@ -1,6 +1,7 @@
 -- The records that C is put, and how its answers are read (`c/kelifandro.c` has the other end). Numbers are little endian.
 use Rattle.std.specs.Prelude.{◌∷◌, ◌++◌, ◌==◌, Bool, Err, List, None, Ok, Option, Result, Some, [], false, if◌then◌else◌, min, not, slice_index, take, true, ℕ}
 use Rattle.std.specs.Int.{from_le_bytes, to_le_bytes, w16, w32, w64}
+use Rattle.mmc_card.specs.CardAnswer.{bit}
 use Rattle.mmc_card.specs.declared.exchange.DataIn.{DataIn}
 use Rattle.mmc_card.specs.declared.exchange.DataIn.TheVariants as Received
 use Rattle.mmc_card.specs.declared.exchange.DataOut.{DataOut}
@@ -60,8 +61,8 @@ command_record command = 1 ∷ command_bytes command
 abbrev pub with_record : ℕ → HostCommand → ℕ → List ℕ
 with_record operation command count = operation ∷ (command_bytes command ++ take 2 (to_le_bytes w64 count))
 
--- Its answer: four words, of a register bits 127 to 96 first, and otherwise the response in the first of them; two bytes and a byte for blocks;
--- and in the last four why no response was heard, 0 where one was.
+-- Its answer, in six words: four, of a register bits 127 to 96 first, and otherwise the response in the first of them; two bytes and a byte for
+-- blocks; and why no response was heard, 0 where one was.
 
 abbrev pub fault_by : ℕ → ResponseFault
 fault_by number = if number == 2 then Check else if number == 3 then EndBit else if number == 4 then Index else Timeout
@@ -81,7 +82,7 @@ heard_in To.R2 answer = Came.Register (register_in answer)
 heard_in _ answer = Came.Word (from_le_bytes w32 (at_places (0 ∷ 1 ∷ 2 ∷ 3 ∷ []) answer))
 
 abbrev pub fault_in : List ℕ → ℕ
-fault_in answer = from_le_bytes w32 (at_places (19 ∷ 20 ∷ 21 ∷ 22 ∷ []) answer)
+fault_in answer = from_le_bytes w32 (at_places (20 ∷ 21 ∷ 22 ∷ 23 ∷ []) answer)
 
 abbrev pub heard_by : Response → List ℕ → Result Heard ResponseFault
 heard_by response answer =
@@ -124,20 +125,29 @@ touched_by (Move.Failed got) count = count
 abbrev pub block_by : ℕ → ℕ → DataIn
 block_by size count = if count == size then Received.Good else if count == 0 then Received.Nothing else Received.Bad
 
--- A block that is written: 1 accepted, 2 rejected.
+-- A block that is written: 0 accepted, 1 rejected.
+abbrev pub status_number : ℕ → DataOut
+status_number status = if status == 0 then Sent.Accepted else if status == 1 then Sent.Rejected else Sent.Nothing
+
 abbrev pub status_by : List ℕ → DataOut
-status_by [] = Sent.Nothing
-status_by (status ∷ rest) = if status == 1 then Sent.Accepted else if status == 2 then Sent.Rejected else Sent.Nothing
+status_by answer = status_number (from_le_bytes w32 answer)
 
 abbrev pub look_record : ℕ → List ℕ
 look_record micros = 4 ∷ to_le_bytes w32 micros
 
 abbrev pub is_busy_by : List ℕ → Bool
-is_busy_by [] = false
-is_busy_by (busy ∷ rest) = not (busy == 0)
+is_busy_by answer = not (from_le_bytes w32 answer == 0)
 
 abbrev pub pause_record : ℕ → List ℕ
 pause_record micros = 6 ∷ to_le_bytes w32 micros
+
+-- the card's power is switched
+abbrev pub power_record : Bool → List ℕ
+power_record is_on = 7 ∷ bit is_on ∷ []
+
+-- the memory of what follows lies so many sectors further on
+abbrev pub after_record : ℕ → List ℕ
+after_record count = 12 ∷ to_le_bytes w32 count
 
 abbrev pub lines_number : Width → ℕ
 lines_number One = 1

@@ -9,6 +9,7 @@ use Rattle.mmc_host.specs.declared.work.Work.{Work}
 use Rattle.mmc_sdhci.specs.Controller.{ControllerView}
 use Rattle.c_host.specs.Talk.{Talk}
 use Rattle.c_host.specs.Told.{EndsWithIos, TellsIos, TellsLook}
+use Rattle.c_host.specs.declared.kinds.Kinds.{Kinds}
 use Rattle.c_host.specs.declared.way.CFunctions.{CFunctions}
 use Rattle.c_host.specs.declared.way.Given.{Given}
 use Rattle.c_host.specs.declared.way.Given.TheVariants as Gives
@@ -22,9 +23,15 @@ view_of view (Registers driver) = view driver
 
 -- by functions: this became of the talk, and the limits are the same; by registers: the controller's driver says
 abbrev pub Speaks : {H : Type 0} → Way H → Way H → (List Talk → List Talk → Type 0) → Type 0
-Speaks (Host old) (Host new) Tells = Tells old.stream.diary.past new.stream.diary.past × (new.limits ≡ old.limits)
+Speaks (Host old) (Host new) Tells =
+    Tells old.stream.diary.past new.stream.diary.past × (new ≡ record old { stream = new.stream })
 Speaks (Registers old) (Registers new) Tells = Unit {0}
 Speaks _ _ Tells = ⊥
+
+-- the same of a command, by the kinds of card that are served
+abbrev pub SpeaksWithin : {H : Type 0} → Way H → Way H → (Kinds → List Talk → List Talk → Type 0) → Type 0
+SpeaksWithin (Host old) new Tells = Speaks (Host old) new (Tells old.kinds)
+SpeaksWithin (Registers old) new Tells = Speaks (Registers old) new (λ before after. Unit {0})
 
 -- by functions C was told so last; by registers the driver has told them so
 abbrev pub HasTold : {H : Type 0} → (H → Ios → Type 0) → Way H → Ios → Type 0
@@ -61,7 +68,7 @@ IsOver controller told host =
 -- which no command was sent.
 abbrev pub Begins : {R H : Type 0} → (R → ControllerView) → (H → HostView) → Given R → Way H → Type 0
 Begins of view (Gives.Host given) (Host functions) =
-    TellsIos begun.ios given.stream.diary.past functions.stream.diary.past × (functions.limits ≡ given.limits)
+    TellsIos begun.ios given.stream.diary.past functions.stream.diary.past × (functions ≡ record given { stream = functions.stream })
 Begins of view (Gives.Registers registers) (Registers driver) = IsOver (of registers) begun (view driver)
 Begins of view _ _ = ⊥
 

@@ -6,6 +6,7 @@
 
 mod diary;
 mod given;
+mod kinds;
 mod lending;
 mod lent;
 mod records;
@@ -14,7 +15,8 @@ mod stream;
 mod way;
 
 pub use diary::{Call, Diary, Note};
-pub use given::{WayRecord, given_by};
+pub use given::{WayRecord, given_by, kinds_by, most_by};
+pub use kinds::Kinds;
 pub use lending::Lent;
 pub use lent::{Sectors, SectorsMut};
 pub use registers::CRegisters;

@@ -3,7 +3,7 @@ ghost use Rattle.std.specs.Prelude.{◌≡◌, true, ℕ};
 ghost use Rattle.std.specs.Int.{from_le_bytes};
 ghost use Rattle.c_host.specs.Records.{command_record, count_number, data_number, failed_by, fault_by, good_by};
 ghost use Rattle.c_host.specs.Records.{heard_by, heard_in, ios_record, is_word, length_number, lines_number, moved_by};
-ghost use Rattle.c_host.specs.Records.{refused_by, register_in, response_number, timing_number, touched_by};
+ghost use Rattle.c_host.specs.Records.{refused_by, register_in, response_number, status_by, timing_number, touched_by};
 ghost use Rattle.c_host.specs.Lending.{back_record, lending_record, lent_at, table_at};
 ghost use Rattle.mmc_sdhci.specs.Lending.{Fits, FitsTable};
 ghost use Rattle.mmc_card.specs.CardAnswer.{Silent};
@@ -27,6 +27,9 @@ const SET_IOS: u8 = 5;
 /// So many microseconds pass.
 pub const PAUSE: u8 = 6;
 
+/// The card's power is switched.
+pub const POWER: u8 = 7;
+
 /// A register is read.
 pub const READ_REGISTER: u8 = 8;
 
@@ -38,6 +41,9 @@ pub const READ_WITH: u8 = 10;
 
 /// A command goes out, and the blocks after it are written.
 pub const WRITE_WITH: u8 = 11;
+
+/// The memory of what follows lies so many sectors further on.
+pub const AFTER: u8 = 12;
 
 // Memory is wanted for DMA.
 const LEND: u8 = 14;
@@ -90,7 +96,7 @@ fn fault_of(number: u32) -> ResponseFault
 
 /// An answer to a command: four words of its response, how many blocks were good, what became of one that failed, and why no response was
 /// heard.
-pub type Answer = [u8; 23];
+pub type Answer = [u8; 24];
 
 // Bits 127 to 8 of a register, the highest byte first.
 fn register_in(answer: &Answer) -> [u8; 15]
@@ -113,11 +119,22 @@ fn heard_in(response: Response, answer: &Answer) -> Heard
     }
 }
 
+/// What became of a block that was written: 0 it was accepted, 1 rejected.
+pub fn status_by(answer: [u8; 4]) -> DataOut
+    ensures { result ≡ status_by answer }
+{
+    match u32::from_le_bytes(answer) {
+        0 => DataOut::Accepted,
+        1 => DataOut::Rejected,
+        _ => DataOut::Nothing,
+    }
+}
+
 /// What was heard, or why nothing was.
 pub fn heard_by(response: Response, answer: &Answer) -> Result<Heard, ResponseFault>
     ensures { result ≡ heard_by response answer.now }
 {
-    match u32::from_le_bytes([answer[19], answer[20], answer[21], answer[22]]) {
+    match u32::from_le_bytes([answer[20], answer[21], answer[22], answer[23]]) {
         0 => Ok(heard_in(response, answer)),
         fault => Err(fault_of(fault)),
     }

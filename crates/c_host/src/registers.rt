@@ -8,10 +8,11 @@ ghost use Rattle.mmc_sdhci.specs.Lending.{Fits, FitsTable, Lends, LendsTable, Ta
 ghost use Rattle.mmc_sdhci.specs.Lent.{Room, ToGo};
 ghost use Rattle.mmc_sdhci.specs.Moving.{Puts, Takes};
 ghost use Rattle.c_host.specs.Talk.Talk.{Told};
-ghost use Rattle.c_host.specs.Lending.{TellsLending, TellsTable, TellsTaking, size_of_table, taken_back};
-ghost use Rattle.c_host.specs.Registers.{Goes, ReadsByte, ReadsWord, WritesByte};
+ghost use Rattle.c_host.specs.Lending.{TellsLending, TellsTable, TellsTaking, lent_by, size_of_table, taken_back};
+ghost use Rattle.c_host.specs.Registers.{ReadsByte, ReadsWord, WritesByte, WritesWord};
 ghost use Rattle.c_host.specs.Told.{TellsPause, TellsPort};
 
+use crate::kinds::Kinds;
 use crate::lending::Lent;
 use crate::records::{lent_at, table_at};
 use crate::stream::Stream;
@@ -32,9 +33,14 @@ pub struct CRegisters {
     pub lends: bool,
     /// How many bytes a table may have.
     pub room: u16,
+    /// The kinds of card that are served.
+    pub kinds: Kinds,
     /// What is lent.
     pub lent: Option<Lent>,
 }
+
+// Transfer Mode and Command.
+const COMMAND: u8 = 0x0c;
 
 // How many bytes a table has.
 fn size_of_table(table: &Table) -> u16
@@ -42,6 +48,21 @@ fn size_of_table(table: &Table) -> u16
 {
     let line = if table.is_wide() { 12 } else { 8 };
     line * table.len() as u16
+}
+
+// What is lent at this address: nothing where it is 0.
+fn lent_by(address: u64, is_room: bool, count: usize) -> Option<Lent>
+    ensures { result ≡ lent_by address is_room count }
+{
+    if address == 0 {
+        return None;
+    }
+    let [a, b, ..] = count.to_le_bytes();
+    Some(Lent {
+        is_room,
+        count: [a, b],
+        table: 0,
+    })
 }
 
 impl CRegisters {
@@ -68,14 +89,7 @@ impl CRegisters {
         }
         self.give_back();
         let address = self.stream.lend(is_room, count);
-        if address != 0 {
-            let [a, b, ..] = count.to_le_bytes();
-            self.lent = Some(Lent {
-                is_room,
-                count: [a, b],
-                table: 0,
-            });
-        }
+        self.lent = lent_by(address, is_room, count);
         let place = lent_at(address, count);
         if place.is_none() {
             self.give_back();
@@ -129,9 +143,12 @@ impl Registers for CRegisters {
 
     fn write32(&mut self, offset: u8, value: u32)
         ensures writes { Writes unkept_controller offset value unkept_controller }
-        ensures told { Goes 4 offset value self.old.stream.diary.past self.new.stream.diary.past }
+        ensures told { WritesWord self.old.kinds offset value self.old.stream.diary.past self.new.stream.diary.past }
         ensures same { self.new ≡ record self.old { stream = self.new.stream } }
     {
+        if offset == COMMAND && self.kinds.ask_in_vain((value / 0x100_0000 % 64) as u8) {
+            return;
+        }
         self.stream.write_register(4, offset, value);
     }
 
@@ -180,6 +197,7 @@ impl Registers for CRegisters {
         ensures lends { Lends unkept_controller (Room count) result unkept_controller }
         ensures fits { Fits result count }
         ensures told { TellsLending true count self.old result self.new }
+        ensures same { self.new ≡ record self.old { stream = self.new.stream; lent = self.new.lent } }
     {
         self.lend(true, count)
     }
@@ -188,6 +206,7 @@ impl Registers for CRegisters {
         ensures lends { Lends unkept_controller (ToGo (D.blocks blocks.now)) result unkept_controller }
         ensures fits { Fits result (length (D.blocks blocks.now)) }
         ensures told { TellsLending false (length (D.blocks blocks.now)) self.old result self.new }
+        ensures same { self.new ≡ record self.old { stream = self.new.stream; lent = self.new.lent } }
     {
         self.lend(false, blocks.len())
     }
@@ -197,6 +216,7 @@ impl Registers for CRegisters {
         ensures lends { LendsTable unkept_controller table.now.is_wide result unkept_controller }
         ensures fits { FitsTable table.now.is_wide result }
         ensures told { TellsTable table.now self.old result self.new }
+        ensures same { self.new ≡ record self.old { stream = self.new.stream; lent = self.new.lent } }
     {
         let size = size_of_table(table);
         if size > self.room {
@@ -215,6 +235,7 @@ impl Registers for CRegisters {
         ensures takes { TakesPlace unkept_controller index block.new unkept_controller }
         ensures whole { length block.new ≡ 512 }
         ensures told { TellsTaking block.new self.old self.new }
+        ensures same { self.new ≡ record self.old { stream = self.new.stream; lent = self.new.lent } }
     {
         let _ = index;
         self.give_back();
@@ -225,6 +246,7 @@ impl Registers for CRegisters {
         ensures takes { TakesPlaces unkept_controller index blocks.new unkept_controller }
         ensures whole { length blocks.new ≡ length blocks.old }
         ensures told { TellsTaking blocks.new self.old self.new }
+        ensures same { self.new ≡ record self.old { stream = self.new.stream; lent = self.new.lent } }
     {
         let _ = index;
         self.give_back();
@@ -234,7 +256,7 @@ impl Registers for CRegisters {
     fn take_back(&mut self)
         ensures back { Settled unkept_controller (unkept_controller ≡ unlent unkept_controller) unkept_controller }
         ensures told { self.new.stream.diary.past ≡ taken_back self.old.lent self.old.stream.diary.past }
-        ensures lent { self.new.lent ≡ None }
+        ensures same { self.new ≡ record self.old { stream = self.new.stream; lent = None } }
     {
         self.give_back();
     }

@@ -6,7 +6,7 @@ ghost use Rattle.c_host.specs.Talk.Talk.{Asked, Came, Told};
 ghost use Rattle.c_host.specs.Talk.{last_answer};
 ghost use Rattle.c_host.specs.Records.{command_record, failed_by, good_by};
 ghost use Rattle.c_host.specs.Records.{heard_by, ios_record, is_word, moved_by};
-ghost use Rattle.c_host.specs.Records.{refused_by, touched_by, with_record};
+ghost use Rattle.c_host.specs.Records.{after_record, power_record, refused_by, touched_by, with_record};
 ghost use Rattle.c_host.specs.Told.{TellsCommand, TellsIos, TellsLook, TellsPause, TellsPort, TellsRead, TellsReadWith, TellsWrite};
 ghost use Rattle.c_host.specs.Told.{TellsWriteWith};
 ghost use Rattle.c_host.specs.Lending.{back_record, lending_record, with_lines};
@@ -18,9 +18,9 @@ ghost use Rattle.mmc_card.specs.declared.response.Response.TheVariants.{R1};
 use crate::diary::{Call, Diary, Note};
 use crate::lending::Lent;
 use crate::records::{
-    Answer, LEND_TABLE, LOOK, PAUSE, READ_REGISTER, READ_WITH, WRITE_REGISTER, WRITE_WITH,
-    back_record, command_record, failed_by, good_by, heard_by, ios_record, is_word, lending_record,
-    moved_by, refused_by, touched_by,
+    AFTER, Answer, LEND_TABLE, LOOK, PAUSE, POWER, READ_REGISTER, READ_WITH, WRITE_REGISTER,
+    WRITE_WITH, back_record, command_record, failed_by, good_by, heard_by, ios_record, is_word,
+    lending_record, moved_by, refused_by, status_by, touched_by,
 };
 use mmc_bus::{BlocksMut, Moved};
 use mmc_card::{DataIn, DataOut};
@@ -93,7 +93,7 @@ impl Stream {
         ensures told { TellsCommand command result self.old.diary.past self.new.diary.past }
         ensures same { self.new.number ≡ self.old.number }
     {
-        let mut answer = [0; 23];
+        let mut answer = [0; 24];
         self.ask(&command_record(command), &mut answer);
         heard_by(command.response, &answer)
     }
@@ -156,7 +156,7 @@ impl Stream {
     {
         let [_, index, response, direction, a, b, c, d, e, f, g, h] = command_record(command);
         let [i, j, ..] = count.to_le_bytes();
-        let mut answer = [0; 23];
+        let mut answer = [0; 24];
         self.ask(
             &[
                 operation, index, response, direction, a, b, c, d, e, f, g, h, i, j,
@@ -187,13 +187,9 @@ impl Stream {
         ensures told { TellsWrite block.now result self.old.diary.past self.new.diary.past }
         ensures same { self.new.number ≡ self.old.number }
     {
-        let mut answer = [0];
+        let mut answer = [2, 0, 0, 0];
         self.ask(block, &mut answer);
-        match answer[0] {
-            1 => DataOut::Accepted,
-            2 => DataOut::Rejected,
-            _ => DataOut::Nothing,
-        }
+        status_by(answer)
     }
 
     /// Whether the card is busy after so many microseconds.
@@ -202,9 +198,9 @@ impl Stream {
         ensures same { self.new.number ≡ self.old.number }
     {
         let [a, b, c, d] = micros.to_le_bytes();
-        let mut answer = [0];
+        let mut answer = [0; 4];
         self.ask(&[LOOK, a, b, c, d], &mut answer);
-        answer[0] != 0
+        u32::from_le_bytes(answer) != 0
     }
 
     /// Sets lines, timing and clock.
@@ -213,6 +209,23 @@ impl Stream {
         ensures same { self.new.number ≡ self.old.number }
     {
         self.tell(&ios_record(ios));
+    }
+
+    /// Switches the card's power.
+    pub fn set_power(&mut self, is_on: bool)
+        ensures told { self.new.diary.past ≡ Told (power_record is_on) ∷ self.old.diary.past }
+        ensures same { self.new.number ≡ self.old.number }
+    {
+        self.tell(&[POWER, u8::from(is_on)]);
+    }
+
+    /// Goes on with a request's memory after so many sectors.
+    pub fn go_on_after(&mut self, count: u32)
+        ensures told { self.new.diary.past ≡ Told (after_record count) ∷ self.old.diary.past }
+        ensures same { self.new.number ≡ self.old.number }
+    {
+        let [a, b, c, d] = count.to_le_bytes();
+        self.tell(&[AFTER, a, b, c, d]);
     }
 
     /// Waits for so many microseconds.

@@ -8,11 +8,14 @@ ghost use Rattle.mmc_card.specs.declared.response.Response.TheVariants.{R1};
 ghost use Rattle.mmc_sdhci.specs.Controller.{IsAtMost, lines_in};
 ghost use Rattle.mmc_sdhci.specs.Driver.{IsNew, IsReady, speed_limit};
 ghost use Rattle.mmc_sdhci.specs.Moving.{WhereKept};
-ghost use Rattle.c_host.specs.Told.{TellsCommand, TellsIos, TellsPause, TellsRead, TellsReadWith, TellsWrite, TellsWriteWith};
+ghost use Rattle.c_host.specs.Kinds.{TellsWithin};
+ghost use Rattle.c_host.specs.Told.{TellsIos, TellsPause, TellsRead, TellsReadWith, TellsWrite, TellsWriteWith};
+ghost use Rattle.c_host.specs.Powers.{SwitchesOff, SwitchesOn};
 ghost use Rattle.c_host.specs.Ways.{Begins, HasLimits, HasTold, IfDriven, IfFunctions, IfHost, IfRegisters, Resumes, Speaks};
-ghost use Rattle.c_host.specs.Ways.{TellsLookFor, view_of};
+ghost use Rattle.c_host.specs.Ways.{SpeaksWithin, TellsLookFor, view_of};
 ghost use Rattle.c_host.specs.declared.way.Way.TheVariants.{Host};
 
+use crate::kinds::Kinds;
 use crate::registers::CRegisters;
 use crate::stream::Stream;
 use mmc_bus::{Blocks, BlocksMut, Moved};
@@ -36,6 +39,24 @@ pub struct CFunctions {
     pub stream: Stream,
     /// The most lines and the fastest timing.
     pub limits: Lines,
+    /// Whether they switch the card's power.
+    pub has_power: bool,
+    /// The kinds of card that are served.
+    pub kinds: Kinds,
+}
+
+impl CFunctions {
+    // Sends a command, unless it asks in vain.
+    fn send(&mut self, command: HostCommand) -> Result<Heard, ResponseFault>
+        ensures told { TellsWithin self.old.kinds command result self.old.stream.diary.past self.new.stream.diary.past }
+        ensures same { self.new ≡ record self.old { stream = self.new.stream } }
+        ensures number { self.new.stream.number ≡ self.old.stream.number }
+    {
+        if self.kinds.ask_in_vain(command.index) {
+            return Err(ResponseFault::Timeout);
+        }
+        self.stream.send(command)
+    }
 }
 
 /// A host that C implements.
@@ -49,6 +70,36 @@ pub enum Way<H> {
 
 /// A host over functions of C, or over registers that C reads and writes.
 pub type CWay = Way<Sdhci<CRegisters>>;
+
+impl Given<CRegisters> {
+    /// Switches the card's power on, where that can be switched. By registers the driver does it.
+    pub fn switch_on(&mut self)
+        ensures told { SwitchesOn self.old self.new }
+    {
+        match self {
+            Given::Host(functions) => {
+                if functions.has_power {
+                    functions.stream.set_power(true);
+                }
+            }
+            Given::Registers(_) => {}
+        }
+    }
+
+    /// Switches it off.
+    pub fn switch_off(&mut self)
+        ensures told { SwitchesOff self.old self.new }
+    {
+        match self {
+            Given::Host(functions) => {
+                if functions.has_power {
+                    functions.stream.set_power(false);
+                }
+            }
+            Given::Registers(registers) => registers.switch_off(),
+        }
+    }
+}
 
 impl<R: Registers + Drop> Way<Sdhci<R>> {
     /// A host that begins with a card: on one line, at the clock of identification.
@@ -151,10 +202,10 @@ impl<H: Host> Host for Way<H> {
         requires told { Where (view_of H.view self.old) (IsTold (view_of H.view self.old).state command) }
         requires clock { Where (view_of H.view self.old) (IsSlowEnough (view_of H.view self.old).state command) }
         ensures sends { Sends (view_of H.view self.old) command result (view_of H.view self.new) }
-        ensures speaks { Speaks self.old self.new (TellsCommand command result) }
+        ensures speaks { SpeaksWithin self.old self.new (λ kinds. TellsWithin kinds command result) }
     {
         match self {
-            Way::Host(functions) => functions.stream.send(command),
+            Way::Host(functions) => functions.send(command),
             Way::Registers(driver) => driver.send(command),
         }
     }

@@ -1,14 +1,13 @@
 -- What C is told of a request, and what was promised of it.
 use Rattle.std.proofs.Common.{◌∙◌, ◌≡◌, ap, refl, subst, sym}
 use Rattle.std.proofs.lemmas.Bool.{false≢true}
-use Rattle.std.specs.Prelude.{[], Bool, Err, IfErr, IfOk, IsOk, List, None, Ok, Option, Result, Some, false, nat_lt, negsuc, pos, slice_set, true, ℕ, ℤ}
-use Rattle.c_host.specs.declared.lent.SectorsMut.{SectorsMut}
+use Rattle.std.specs.Prelude.{[], Bool, Err, IfErr, IfOk, IfSome, IsOk, List, None, Ok, Option, Result, Some, false, nat_lt, negsuc, pos, true, ℕ, ℤ}
 use Rattle.mmc_bus.specs.declared.cause.Cause.{Cause}
 use Rattle.mmc_bus.specs.declared.cause.Cause.TheVariants.{Answer, Busy, Data, Recovery, Status}
-use Rattle.mmc_bus.specs.Lending.{IsRewritten, block, nothing}
 use Rattle.mmc_direct.specs.Noted.{IsCounted, Notes, lines_in}
 use Rattle.mmc_card.specs.declared.exchange.Lines.{Lines}
-use Rattle.mmc_card.specs.declared.part.Part.{Part}
+use Rattle.mmc_card.specs.BusView.{BusView}
+use Rattle.mmc_direct.specs.Opened.{IsReadyAs}
 use Rattle.mmc_direct.specs.Served.{IfRefused, IfServed, refusal_in}
 use Rattle.mmc_direct.specs.declared.refused.NotDone.{NotDone}
 use Rattle.mmc_direct.specs.declared.refused.NotDone.TheVariants.{Failed, Refused as RefusedFor}
@@ -18,12 +17,13 @@ use Rattle.mmc_switch.specs.declared.stands.Stands.{Stands}
 use Rattle.mmc_host.specs.HostStates.{resting}
 use Rattle.mmc_host.specs.Hosts.{HostView}
 use Rattle.mmc_host.specs.declared.told.HostState.{HostState}
-use Rattle.mmc_record.specs.Numbers.{part_of}
+use Rattle.mmc_record.specs.Note.{IsNoteOf}
 use Rattle.mmc_record.specs.declared.record.CardRecord.{CardRecord}
 use Rattle.mmc_recovery.specs.declared.healed.Healed.{Healed}
 use Rattle.mmc_story.specs.Entry.{Entry}
 use Rattle.mmc_story.specs.Story.{IsTrueOf, Story, host_with}
 use Rattle.kelifandro.specs.Answers.{answer_number, cause_number, refused_number}
+use Rattle.kelifandro.specs.Longs.{begins_by}
 use Rattle.kelifandro.specs.Calls.{IfNoted, IsAsNoted, TellsCounts, TellsWhy, host_of, is_attempted}
 
 -- a number of a refusal, and of nothing else
@@ -128,6 +128,12 @@ tells_counts answer stands old (Ok did) number note new told other none counts =
   served_only (answer did) (IsCounted stands old (answer did) note new) (ap (λ (n : ℤ). is_attempted n) (sym told) ∙ made) counts,
 )
 
+-- who is found by the record stands as was noted
+pub as_noted_by : (note : CardRecord) (found : Option Stands)
+    → ((stands : Stands) → IsNoteOf stands note → found ≡ Some stands) → IfSome found (λ stands. IsAsNoted stands note)
+as_noted_by note None noted = tt
+as_noted_by note (Some stands) noted = λ other is. let same : Some stands ≡ Some other = noted other is in cc
+
 -- what holds of how the card stands holds of what was noted
 pub as_noted : (note : CardRecord) (stands : Stands) → IsAsNoted stands note → (Holds : Stands → Type 0) → Holds stands
     → IfNoted note Holds
@@ -158,3 +164,18 @@ pub noted_again : (P Q : Type 0) (note new : CardRecord) (stands : Stands) (answ
 noted_again P Q note new stands (Ok done) noted holds how is = tt
 noted_again P Q note new stands (Err (RefusedFor why)) noted holds how is = subst (λ (s : Stands). Notes s new) (noted how is) holds.2
 noted_again P Q note new stands (Err (Failed cause)) noted holds how is = tt
+
+-- a record that is the same as that of a card which is ready is one too
+pub ready_again : (old new : CardRecord) (view : BusView) → new ≡ old → IsReadyAs old view → IsReadyAs new view
+ready_again old new view same ready = subst (λ (note : CardRecord). IsReadyAs note view) (sym same) ready
+
+-- where a long request doesn't begin it is told why
+pub told_why : (refusal : Option Refused) (number : ℤ) (Told : Refused → Type 0) → Err number ≡ begins_by refusal
+    → ((why : Refused) → number ≡ refused_number why → Told why) → IfSome refusal Told
+told_why None number Told is told = tt
+told_why (Some why) number Told is told = told why cc
+
+-- where it does there is nothing to tell
+pub told_none : (refusal : Option Refused) (Told : Refused → Type 0) → Ok tt ≡ begins_by refusal → IfSome refusal Told
+told_none None Told is = tt
+told_none (Some why) Told is = absurd (cc)

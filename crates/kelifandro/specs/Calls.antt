@@ -8,11 +8,14 @@ use Rattle.mmc_requests.specs.declared.refused.Refused.{Refused}
 use Rattle.mmc_switch.specs.declared.stands.Stands.{Stands}
 use Rattle.mmc_host.specs.HostStates.{resting}
 use Rattle.mmc_host.specs.Hosts.{HostView}
-use Rattle.mmc_record.specs.Note.{IsNoteOf}
-use Rattle.mmc_record.specs.Numbers.{part_of}
+use Rattle.mmc_record.specs.Note.{IsNoteOf, is_note}
+use Rattle.mmc_record.specs.Numbers.{kind_of, part_of}
 use Rattle.mmc_record.specs.declared.record.CardRecord.{CardRecord}
 use Rattle.mmc_recovery.specs.declared.healed.Healed.{Healed}
 use Rattle.mmc_story.specs.Story.{Story, host_with}
+use Rattle.c_host.specs.Given.{kinds_by}
+use Rattle.c_host.specs.Kinds.{serves}
+use Rattle.c_host.specs.declared.given.WayRecord.{WayRecord}
 use Rattle.kelifandro.specs.Answers.{answer_number, refused_number}
 
 -- the card stands as was noted
@@ -22,6 +25,14 @@ IsAsNoted stands note = (noted : Stands) → IsNoteOf noted note → stands ≡ 
 -- where a card is noted, this holds of how it stands
 abbrev pub IfNoted : CardRecord → (Stands → Type 0) → Type 0
 IfNoted note Holds = (stands : Stands) → IsNoteOf stands note → Holds stands
+
+-- it is noted, and of a kind that is served
+abbrev pub is_open : WayRecord → CardRecord → Bool
+is_open way note = is_note note && serves (kinds_by way) (kind_of note.kind)
+
+-- where a card is open, this holds of how it stands
+abbrev pub IfOpen : WayRecord → CardRecord → (Stands → Type 0) → Type 0
+IfOpen way note Holds = is_open way note ≡ true → IfNoted note Holds
 
 -- where there is a partition of this number, this holds of it
 abbrev pub IfMeant : ℕ → (Part → Type 0) → Type 0

@@ -1,5 +1,6 @@
 // The numbers that C knows of answers (`enum kelifandro_result`).
-ghost use Rattle.std.specs.Prelude.{◌≡◌, pos};
+ghost use Rattle.std.specs.Prelude.{◌≡◌, false, pos};
+ghost use Rattle.kelifandro.specs.Calls.{is_attempted};
 ghost use Rattle.kelifandro.specs.Answers.{answer_number, cause_number, refused_number, start_number, unidentified_number};
 ghost use Rattle.kelifandro.specs.Answers.{unopened_number};
 
@@ -15,12 +16,19 @@ pub const DONE: i32 = 0;
 /// The card isn't open: `kelifandro_open` comes first.
 pub const NOT_OPEN: i32 = -1;
 
+/// No card answers.
+pub const NO_CARD: i32 = -20;
+
+/// The card says what no card that is served may say.
+pub const UNSUPPORTED: i32 = -21;
+
 /// The card has no such partition.
 pub const NO_PARTITION: i32 = -2;
 
-// Why a request is refused.
-fn refused_number(refused: Refused) -> i32
-    ensures { result ≡ refused_number refused }
+/// Why a request is refused.
+pub fn refused_number(refused: Refused) -> i32
+    ensures number { result ≡ refused_number refused }
+    ensures unmade { is_attempted result ≡ false }
 {
     match refused {
         Refused::NoSuchPartition => NO_PARTITION,
@@ -60,8 +68,8 @@ fn unidentified_number(fault: IdentFault) -> i32
     ensures { result ≡ unidentified_number fault }
 {
     match fault {
-        IdentFault::NoAnswer => -20,
-        IdentFault::Register | IdentFault::Mismatch => -21,
+        IdentFault::NoAnswer => NO_CARD,
+        IdentFault::Register | IdentFault::Mismatch => UNSUPPORTED,
         IdentFault::Voltage => -25,
         IdentFault::Locked => -26,
     }
@@ -74,8 +82,8 @@ pub fn unopened_number(fault: InitializationFault) -> i32
 {
     match fault {
         InitializationFault::Identification(fault) => unidentified_number(fault),
-        InitializationFault::Widening(SwitchFault::Exchange) => -20,
-        InitializationFault::Widening(SwitchFault::Register) => -21,
+        InitializationFault::Widening(SwitchFault::Exchange) => NO_CARD,
+        InitializationFault::Widening(SwitchFault::Register) => UNSUPPORTED,
     }
 }
 

@@ -1,10 +1,8 @@
-// The power of a card whose controller's registers C gives. What a host has for it C calls by itself.
-use c_host::{Given, WayRecord, given_by};
+// The power of a card, once it is used no more.
+use c_host::{WayRecord, given_by};
 
-/// Takes the card's power.
+/// Takes the card's power, where that can be switched.
 #[unsafe(no_mangle)]
-pub extern "C" fn kelifandro_close_by(stream: i32, way: &WayRecord) {
-    if let Given::Registers(mut registers) = given_by(stream, way) {
-        registers.switch_off();
-    }
+pub extern "C" fn kelifandro_close_by(way: &WayRecord) {
+    given_by(way).switch_off();
 }

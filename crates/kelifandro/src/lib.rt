@@ -5,5 +5,6 @@ mod answers;
 mod calls;
 mod closing;
 mod exports;
+mod longs;
 mod opening;
 mod requests;

@@ -1,18 +1,19 @@
 // A request of C: one call of `serve_over`, over the host that C has given, with a diary. What is promised of the card holds for every story
 // that is true of the diary. What is left of the host is handed out, since by it the contract says what became of the card.
-ghost use Rattle.std.specs.Prelude.{◌≡◌, Err, IfErr, IfOk, IsOk, [], false, is_err, is_some, pos};
+ghost use Rattle.std.specs.Prelude.{◌*◌, ◌≡◌, ◌≤◌, Err, IfErr, IfOk, IsOk, [], false, is_err, is_some, pos};
+ghost use Rattle.mmc_direct.specs.Attempts.{exchanges_of};
 ghost use Rattle.mmc_direct.specs.Noted.{IsCounted, IsServed, Notes};
 ghost use Rattle.mmc_direct.specs.Refusal.{refusal_of};
 ghost use Rattle.mmc_direct.specs.Requests.{Serves};
 ghost use Rattle.mmc_direct.specs.Served.{IfRefused, IfServed, refusal_in};
+ghost use Rattle.mmc_requests.specs.declared.limits.TheConstants.{ATTEMPTS};
 ghost use Rattle.mmc_switch.specs.Stands.{info_of};
-ghost use Rattle.mmc_record.specs.Note.{is_note};
 ghost use Rattle.mmc_story.specs.Story.{IsTrueOf};
 ghost use Rattle.kelifandro.specs.Answers.{answer_number, minus};
-ghost use Rattle.kelifandro.specs.Calls.{IfNoted, TellsCounts, TellsWhy, host_of, is_attempted};
+ghost use Rattle.kelifandro.specs.Calls.{IfNoted, IfOpen, TellsCounts, TellsWhy, host_of, is_attempted, is_open};
 
-use crate::answers::answer_number;
-use crate::calls::{CHost, go_back};
+use crate::answers::{NOT_OPEN, answer_number};
+use crate::calls::{CHost, go_back, open_card};
 use c_host::WayRecord;
 use mmc_bus::{Bus, Lines};
 use mmc_direct::{Left, NotDone, Request, serve_over};
@@ -66,14 +67,13 @@ fn told<S: HasStory>(called: Result<Called<CHost<S>>, i32>) -> i32
 /// # Errors
 /// The number of why it came to no host.
 pub fn serve_by<S: HasStory, R: Request>(
-    stream: i32,
     way: &WayRecord,
     card: &mut CardRecord,
     healed: &mut Healed,
     request: &mut R,
 ) -> Result<Called<CHost<S>>, i32>
-    ensures not_open { is_note card.old ≡ false → result ≡ Err (minus 1) }
-    ensures functions { way.now.by ≡ 0 → IfNoted card.old (λ stands. IsOk result) }
+    ensures not_open { is_open way.now card.old ≡ false → result ≡ Err (minus 1) }
+    ensures functions { way.now.by ≡ 0 → IfOpen way.now card.old (λ stands. IsOk result) }
     ensures fault { IfErr result (λ number. number ≡ pos 0 → ⊥) }
     ensures unmade { IfErr result (λ number. is_attempted number ≡ false) }
     ensures no_host { IfErr result (λ number. (card.new ≡ card.old) × (request.new ≡ request.old)) }
@@ -87,11 +87,16 @@ pub fn serve_by<S: HasStory, R: Request>(
     ensures counted { IfNoted card.old (λ stands. IfOk result (λ did. IfServed did.answer
         (IsCounted stands healed.old did.answer card.new healed.new))) }
     ensures leaves { R.leaves request.old request.new }
+    ensures bounded { IfOk result (λ did. IfOk did.left (λ bus.
+        (⟦<HostBus<CHost<S>> as Bus>⟧.view bus).exchanges ≤ ATTEMPTS * exchanges_of (R.asked request.old))) }
     ensures served { IsTrueOf S.story [] → IfNoted card.old (λ stands. IfOk result (λ did. IfOk did.left (λ bus.
         IsServed (Serves (R.change (info_of stands) request.old) (λ sets. R.has sets request.new)) stands
         (host_of S.story stands did.limits) did.answer card.new (⟦<HostBus<CHost<S>> as Bus>⟧.view bus)))) }
 {
-    let (stands, host) = go_back(stream, way, card)?;
+    let Some(stands) = open_card(way, card) else {
+        return Err(NOT_OPEN);
+    };
+    let host = go_back(way, &stands)?;
     let limits = host.limits();
     let (answer, left) = serve_over(host, card, healed, stands, request);
     Ok(Called {
@@ -103,18 +108,17 @@ pub fn serve_by<S: HasStory, R: Request>(
 
 /// Serves a request. What C can see of it stands here; of the card `serve_by` promises, for every story: `Brand` picks none.
 pub fn serve_told<R: Request>(
-    stream: i32,
     way: &WayRecord,
     card: &mut CardRecord,
     healed: &mut Healed,
     request: &mut R,
 ) -> i32
-    ensures not_open { is_note card.old ≡ false → result ≡ minus 1 }
-    ensures judged { IfNoted card.old (λ stands. TellsWhy way.now.by (refusal_of (info_of stands) (R.asked request.old)) result) }
+    ensures not_open { is_open way.now card.old ≡ false → result ≡ minus 1 }
+    ensures judged { IfOpen way.now card.old (λ stands. TellsWhy way.now.by (refusal_of (info_of stands) (R.asked request.old)) result) }
     ensures uncounted { is_attempted result ≡ false → healed.new ≡ healed.old }
     ensures counted { IfNoted card.old (λ stands. TellsCounts stands healed.old result card.new healed.new) }
     ensures untouched { is_attempted result ≡ false → request.new ≡ request.old }
     ensures leaves { R.leaves request.old request.new }
 {
-    told(serve_by::<Brand, R>(stream, way, card, healed, request))
+    told(serve_by::<Brand, R>(way, card, healed, request))
 }

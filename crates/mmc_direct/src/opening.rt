@@ -24,7 +24,7 @@ pub fn open<B: Bus>(
     ensures bounded { (B.view bus.new).exchanges ≤ (B.view bus.old).exchanges + EXCHANGES_OF_AN_OPENING }
     ensures opened { (B.view bus.new).is_kept ≡ true → IfOk result (λ _. IsReadyAs card.new (B.view bus.new)) }
     ensures healed { healed.new ≡ none_met }
-    ensures not_open { IfErr result (λ _. card.new.state ≡ 0) }
+    ensures not_open { IfErr result (λ _. card.new ≡ record card.old { state = 0 }) }
     ensures refused { (B.view bus.new).is_kept ≡ true → InProfile (B.view bus.old).card.made
         → IfErr result (λ _. (B.view bus.old).faults + 3 ≤ (B.view bus.new).faults) }
 {

@@ -19,7 +19,6 @@ pub struct Served {
 
 impl Served {
     // It was refused.
-    #[inline(never)]
     pub(crate) fn refused(stands: Stands, refused: Refused) -> Served
         ensures stands { result.stands ≡ stands }
         ensures answer { result.answer ≡ Err (NotDone.Refused refused) }
@@ -31,7 +30,6 @@ impl Served {
     }
 
     // It was done, or the last of its attempts has failed.
-    #[inline(never)]
     pub(crate) fn of(outcome: Result<Session, Broken>) -> Served
         ensures stands { result.stands ≡ stands_of outcome }
         ensures answer { result.answer ≡ answer_of outcome }

@@ -1,9 +1,11 @@
 // A whole call: a request is judged, a host goes on with a card that was noted, the request is served, and how the card stands is
 // noted. The bus is handed out, since by it the contract says what became of the card.
-ghost use Rattle.std.specs.Prelude.{◌≡◌, Err, IfOk, is_err, is_some};
+ghost use Rattle.std.specs.Prelude.{◌*◌, ◌≡◌, ◌≤◌, Err, IfOk, is_err, is_some};
+ghost use Rattle.mmc_direct.specs.Attempts.{exchanges_of};
 ghost use Rattle.mmc_direct.specs.Refusal.{refusal_of};
 ghost use Rattle.mmc_direct.specs.Requests.{Serves};
 ghost use Rattle.mmc_direct.specs.Served.{IfRefused, IfServed, refusal_in};
+ghost use Rattle.mmc_requests.specs.declared.limits.TheConstants.{ATTEMPTS};
 ghost use Rattle.mmc_switch.specs.Stands.{info_of};
 ghost use Rattle.mmc_host.specs.HostStates.{IsBetween};
 ghost use Rattle.mmc_host.specs.Hosts.{Where};
@@ -14,7 +16,7 @@ use crate::noting::noted;
 use crate::refused::NotDone;
 use crate::request::Request;
 use crate::rules::refusal;
-use crate::serving::serve;
+use crate::serving::serve_unrefused;
 use mmc_bus::Bus;
 use mmc_host::{Host, HostBus};
 use mmc_record::CardRecord;
@@ -43,6 +45,8 @@ pub fn serve_over<H: Host, R: Request>(
     ensures uncounted { IfRefused result.0 (healed.new ≡ healed.old) }
     ensures healed { IfServed result.0 (IsCounted stands healed.old result.0 card.new healed.new) }
     ensures leaves { R.leaves request.old request.new }
+    ensures bounded { IfOk result.1 (λ bus.
+        (⟦<HostBus<H> as Bus>⟧.view bus).exchanges ≤ ATTEMPTS * exchanges_of (R.asked request.old)) }
     ensures served { IfOk result.1 (λ bus. IsServed (Serves (R.change (info_of stands) request.old) (λ sets. R.has sets request.new))
         stands (H.view host) result.0 card.new (⟦<HostBus<H> as Bus>⟧.view bus)) }
     ensures noted { IfOk result.1 (λ bus. WhereStood stands (H.view host) (⟦<HostBus<H> as Bus>⟧.view bus)
@@ -60,7 +64,7 @@ pub fn serve_over<H: Host, R: Request>(
         return (Err(NotDone::Refused(why)), Err(host));
     }
     let mut bus = go_on(host, &stands);
-    let served = serve(&mut bus, healed, stands, request);
+    let served = serve_unrefused(&mut bus, healed, stands, request);
     *card = noted(&served.stands);
     (served.answer, Ok(bus))
 }

@@ -10,6 +10,6 @@ mod record;
 
 pub use laws::a_card_s_registers_have_their_checks;
 pub use noted::{note, note_broken};
-pub use numbers::part_of;
+pub use numbers::{kind_of, part_of};
 pub use reading::restored;
 pub use record::CardRecord;

@@ -1,10 +1,11 @@
 ghost use Rattle.std.specs.Prelude.{◌≡◌, ◌∷◌, [], false, true};
+ghost use Rattle.mmc_card.specs.Limits.{fewer};
 ghost use Rattle.mmc_host.specs.HostStates.{begun, resting};
 
 use crate::diary::{Call, Diary, HostStep, Note, Seen, SeenState};
 use crate::story::HasStory;
 use mmc_bus::{Blocks, BlocksMut, Moved};
-use mmc_card::{DataIn, DataOut, Lines};
+use mmc_card::{DataIn, DataOut, Lines, Width};
 use mmc_host::{Heard, Host, HostBus, HostCommand, HostState, Ios, ResponseFault, Work};
 use std::marker::PhantomData;
 
@@ -65,6 +66,15 @@ impl<H: Host, S: HasStory> StoryHost<H, S> {
             diary: Diary::new(),
             of: PhantomData,
         }
+    }
+
+    /// The same on so many data lines at most.
+    pub fn within(self, most: Width) -> StoryHost<H, S>
+        ensures { result ≡ record self { limits = record self.limits { width = fewer self.limits.width most } } }
+    {
+        let mut host = self;
+        host.limits.width = host.limits.width.fewer(most);
+        host
     }
 
     /// The driver.

@@ -11,35 +11,36 @@ use Rattle.mmc_switch.specs.Stands.{info_of}
 use Rattle.kelifandro.proofs.CallLemmas.{as_noted, holds_as_noted, noted_again, unchanged_by}
 use Rattle.kelifandro.proofs.requests.serve_by.Goals as goal
 
-pub returns-in_err-stands-clause-functions : goal.returns-in_err-stands-clause-functions
-returns-in_err-stands-clause-functions g c = λ host how is. absurd (false≢true (c.in_err-stands.ensures.functions host how is))
+pub returns-in_err-host-clause-functions : goal.returns-in_err-host-clause-functions
+returns-in_err-host-clause-functions g c = λ host opened how is.
+    absurd (false≢true (c.in_err-host.ensures.functions host))
 
 pub returns-clause-untouched : goal.returns-clause-untouched
 returns-clause-untouched g c = unchanged_by _ _ _ c.serve_over-answer.result.0 c.serve_over-answer.ensures.untouched
 
 pub returns-clause-noted : goal.returns-clause-noted
 returns-clause-noted g c =
-    noted_again _ _ c.args.card.now _ c.in_ok-stands.stands c.serve_over-answer.result.0 c.in_ok-stands.ensures.stands
+    noted_again _ _ c.args.card.now _ c.in-Some.stands c.serve_over-answer.result.0 c.in-Some.ensures.stands
     c.serve_over-answer.ensures.untouched
 
 pub returns-clause-judged : goal.returns-clause-judged
 returns-clause-judged g c =
-    as_noted c.args.card.now c.in_ok-stands.stands c.in_ok-stands.ensures.stands
+    as_noted c.args.card.now c.in-Some.stands c.in-Some.ensures.stands
     (λ stands. refusal_in c.serve_over-answer.result.0 ≡ refusal_of (info_of stands) (g.R.Request.asked c.args.request.now))
     c.serve_over-answer.ensures.refused
 
 pub returns-clause-counted : goal.returns-clause-counted
 returns-clause-counted g c =
-    as_noted c.args.card.now c.in_ok-stands.stands c.in_ok-stands.ensures.stands
+    as_noted c.args.card.now c.in-Some.stands c.in-Some.ensures.stands
     (λ stands. IfServed c.serve_over-answer.result.0 (IsCounted stands c.args.healed.now c.serve_over-answer.result.0
     c.serve_over-answer.new.card c.serve_over-answer.new.healed))
     c.serve_over-answer.ensures.healed
 
 pub returns-clause-served : goal.returns-clause-served
 returns-clause-served g c =
-    holds_as_noted g.S.HasStory.story c.args.card.now c.in_ok-stands.stands c.in_ok-stands.host.diary.past
-    c.in_ok-stands.host.told.state c.in_ok-stands.host.limits c.limits-limits.result c.in_ok-stands.ensures.stands
-    c.in_ok-stands.ensures.past c.in_ok-stands.ensures.state c.limits-limits.ensures
+    holds_as_noted g.S.HasStory.story c.args.card.now c.in-Some.stands c.in_ok-host.host.diary.past
+    c.in_ok-host.host.told.state c.in_ok-host.host.limits c.limits-limits.result c.in-Some.ensures.stands
+    c.in_ok-host.ensures.past c.in_ok-host.ensures.state c.limits-limits.ensures
     (λ stands host. IfOk c.serve_over-answer.result.1 (λ bus.
     IsServed (Serves (g.R.Request.change (info_of stands) c.args.request.now)
     (λ sets. g.R.Request.has sets c.serve_over-answer.new.request)) stands host c.serve_over-answer.result.0
