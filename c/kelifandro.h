@@ -297,9 +297,10 @@ int32_t kelifandro_read(struct kelifandro *kelifandro, enum kelifandro_part part
 int32_t kelifandro_write(struct kelifandro *kelifandro, enum kelifandro_part part, uint64_t start, size_t count,
                          const void *bytes);
 
-/* The same of any number of sectors, in requests of 65,535 at most, by DMA as many as a table has lines for, from the first on; of none where they don't all lie in the partition.
-   It ends with the first request that isn't done: `*done`, where it isn't null, says how many sectors are done before that one. Each
-   sector of that one is old or new then, of a write, and none after it has changed. */
+/* The same of any number of sectors, in requests of 65,535 at most, by DMA as many as a table has lines for, from the first on; of none
+   where they don't all lie in the partition: NO_PARTITION, COUNT of no sector, and OUT_OF_RANGE come before NO_BASE_CLOCK then. It ends with
+   the first request that isn't done: `*done`, where it isn't null, says how many sectors are done before that one. Each sector of that one
+   is old or new then, of a write, and none after it has changed. */
 int32_t kelifandro_read_long(struct kelifandro *kelifandro, enum kelifandro_part part, uint64_t start, size_t count, void *bytes,
                              size_t *done);
 int32_t kelifandro_write_long(struct kelifandro *kelifandro, enum kelifandro_part part, uint64_t start, size_t count,
