@@ -5,7 +5,7 @@ ghost use Rattle.mmc_direct.specs.declared.asked.Asked.{Asked};
 ghost use Rattle.mmc_requests.specs.declared.kind.Kind.TheVariants.{Read, Write};
 ghost use Rattle.mmc_switch.specs.Stands.{info_of};
 ghost use Rattle.kelifandro.specs.Answers.{minus, refused_number};
-ghost use Rattle.kelifandro.specs.Calls.{IfOpen, is_attempted, is_open};
+ghost use Rattle.kelifandro.specs.Calls.{IfNoted, IfOpen, TellsCounts, is_attempted, is_open};
 ghost use Rattle.kelifandro.specs.Longs.{begins_by, long_refusal, longest};
 
 use crate::answers::{DONE, NOT_OPEN, refused_number};
@@ -37,7 +37,9 @@ pub trait Long {
         count: u32,
     ) -> i32
         requires inside { done + count ≤ (asked self.old).count }
-        ensures same { asked self.new ≡ asked self.old };
+        ensures same { asked self.new ≡ asked self.old }
+        ensures uncounted { is_attempted result ≡ false → healed.new ≡ healed.old }
+        ensures counted { IfNoted card.old (λ stands. TellsCounts stands healed.old result card.new healed.new) };
 }
 
 /// A long read, into this memory.
