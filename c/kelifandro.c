@@ -360,85 +360,71 @@ ON_STACK void kelifandro_close(struct kelifandro *kelifandro)
     kelifandro_close_by(&way);
 }
 
-/* Serves a request: by the kind of it, its memory or none, and where to tell how many sectors are done of one that may be long. */
-enum kind { READ, WRITE, READ_LONG, WRITE_LONG, ERASE, TRIM };
+/* Serves a request: at once, or in parts, of which it tells how many sectors are done. */
+enum length { SHORT, LONG };
 
-ON_STACK APART static int32_t serve(struct kelifandro *kelifandro, enum kind kind, enum kelifandro_part part, uint64_t start, uint64_t count,
-                                    const void *bytes, size_t *done)
+ON_STACK APART static int32_t serve(struct kelifandro *kelifandro, struct kelifandro_asked asked, const void *bytes, enum length length,
+                                    size_t *done)
 {
     place at = kelifandro;
     struct kelifandro_way way;
     void *card = &kelifandro->card, *healed = &kelifandro->healed, *memory;
-    uint32_t number = (uint32_t)part;
-    uint64_t sectors = 0;
+    uint64_t blocks = asked.kind < KELIFANDRO_ERASES ? asked.count : 0, sectors = 0;
     int32_t result;
     if (done)
         *done = 0;
     if (!is_given(kelifandro))
         return KELIFANDRO_NO_HOST;
-    way = begin_call(kelifandro, &at, bytes, kind < ERASE ? count : 0);
+    way = begin_call(kelifandro, &at, bytes, blocks);
     memory = kelifandro->call.memory;
-    switch (kind) {
-#ifndef KELIFANDRO_WITHOUT_WRITE
-    case WRITE:
-        result = kelifandro_write_by(&way, card, healed, number, start, memory, count);
-        break;
-    case WRITE_LONG:
-        result = kelifandro_write_long_by(&way, card, healed, number, start, memory, count, &sectors);
-        break;
-#endif
-#ifndef KELIFANDRO_WITHOUT_ERASE
-    case ERASE:
-        result = kelifandro_erase_by(&way, card, healed, number, start, count);
-        break;
-    case TRIM:
-        result = kelifandro_trim_by(&way, card, healed, number, start, count);
-        break;
-#endif
-    case READ_LONG:
-        result = kelifandro_read_long_by(&way, card, healed, number, start, memory, count, &sectors);
-        break;
-    default:
-        result = kelifandro_read_by(&way, card, healed, number, start, memory, count);
-    }
+    if (length == LONG)
+        result = kelifandro_serve_long_by(&way, card, healed, &asked, memory, blocks, &sectors);
+    else
+        result = kelifandro_serve_by(&way, card, healed, &asked, memory, blocks);
     if (done)
         *done = (size_t)sectors;
     return end_call(kelifandro, result);
 }
 
+static struct kelifandro_asked asked_of(enum kelifandro_kind kind, enum kelifandro_part part, uint64_t start, uint64_t count)
+{
+    struct kelifandro_asked asked = {start, count, (uint32_t)part, (uint32_t)kind};
+    return asked;
+}
+
 int32_t kelifandro_read(struct kelifandro *kelifandro, enum kelifandro_part part, uint64_t start, size_t count, void *bytes)
 {
-    return serve(kelifandro, READ, part, start, count, bytes, 0);
+    return serve(kelifandro, asked_of(KELIFANDRO_READS, part, start, count), bytes, SHORT, 0);
 }
 
 int32_t kelifandro_read_long(struct kelifandro *kelifandro, enum kelifandro_part part, uint64_t start, size_t count, void *bytes,
                              size_t *done)
 {
-    return serve(kelifandro, READ_LONG, part, start, count, bytes, done);
+    return serve(kelifandro, asked_of(KELIFANDRO_READS, part, start, count), bytes, LONG, done);
 }
 
 #ifndef KELIFANDRO_WITHOUT_WRITE
 int32_t kelifandro_write(struct kelifandro *kelifandro, enum kelifandro_part part, uint64_t start, size_t count, const void *bytes)
 {
-    return serve(kelifandro, WRITE, part, start, count, bytes, 0);
+    return serve(kelifandro, asked_of(KELIFANDRO_WRITES, part, start, count), bytes, SHORT, 0);
 }
 
 int32_t kelifandro_write_long(struct kelifandro *kelifandro, enum kelifandro_part part, uint64_t start, size_t count,
                               const void *bytes, size_t *done)
 {
-    return serve(kelifandro, WRITE_LONG, part, start, count, bytes, done);
+    return serve(kelifandro, asked_of(KELIFANDRO_WRITES, part, start, count), bytes, LONG, done);
 }
 #endif
 
 #ifndef KELIFANDRO_WITHOUT_ERASE
 int32_t kelifandro_erase(struct kelifandro *kelifandro, enum kelifandro_part part, uint64_t start, uint64_t count)
 {
-    return serve(kelifandro, ERASE, part, start, count, 0, 0);
+    return serve(kelifandro, asked_of(KELIFANDRO_ERASES, part, start, count), 0, SHORT, 0);
 }
 
 int32_t kelifandro_trim(struct kelifandro *kelifandro, enum kelifandro_part part, uint64_t start, uint64_t count)
 {
-    return serve(kelifandro, TRIM, part, start, count, 0, 0);
+    return serve(kelifandro, asked_of(KELIFANDRO_TRIMS, part, start, count), 0, SHORT, 0);
 }
 #endif
 

@@ -14,7 +14,7 @@
    or new and all others unchanged. What is trusted: kelifandro.c, your functions, that each of them returns, and that pointers lead to room
    which is there.
 
-   The library needs memcpy and memset, of the compiler's own library its arithmetic (a division of 64 bits, on 32), and less than 10 KiB
+   The library needs memcpy and memset, of the compiler's own library its arithmetic (a division of 64 bits, on 32), and less than 9 KiB
    of stack (README has it by processor). It keeps to general registers, but that of x86_64, which uses SSE4.2 and the red zone below the
    stack pointer: an interrupt has to keep the former and run on another stack, or leave 128 bytes alone; x86_64-kernel uses neither.
 

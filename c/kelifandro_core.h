@@ -39,18 +39,19 @@ enum kelifandro_record {
     KELIFANDRO_LAST_LINE = 0x23
 };
 
-/* Of the library: `way` is a struct kelifandro_way, `card` a struct kelifandro_card, `healed` a struct kelifandro_healed, `part` an enum
-   kelifandro_part, `blocks` so many blocks of 512 bytes, `done` a uint64_t, which tells how many of them are done. All pointers lead to
-   something, also that of no blocks. What is answered as an int32_t is an enum kelifandro_result. */
+/* A request (crates/kelifandro/src/asked.rt): what is done with so many sectors of a partition, from this one on. */
+struct kelifandro_asked {
+    uint64_t start, count;
+    uint32_t part, kind;
+};
+enum kelifandro_kind { KELIFANDRO_READS, KELIFANDRO_WRITES, KELIFANDRO_ERASES, KELIFANDRO_TRIMS };
+
+/* Of the library: `way` is a struct kelifandro_way, `card` a struct kelifandro_card, `healed` a struct kelifandro_healed, `asked` a struct
+   kelifandro_asked, `blocks` so many blocks of 512 bytes, to which only a read writes, `done` a uint64_t, which tells how many of them
+   are done. All pointers lead to something, also that of no blocks. What is answered as an int32_t is an enum kelifandro_result. */
 int32_t kelifandro_open_by(const void *way, void *card, void *healed);
-int32_t kelifandro_read_by(const void *way, void *card, void *healed, uint32_t part, uint64_t start, void *blocks, uint64_t count);
-int32_t kelifandro_write_by(const void *way, void *card, void *healed, uint32_t part, uint64_t start, const void *blocks, uint64_t count);
-int32_t kelifandro_read_long_by(const void *way, void *card, void *healed, uint32_t part, uint64_t start, void *blocks, uint64_t count,
-                                void *done);
-int32_t kelifandro_write_long_by(const void *way, void *card, void *healed, uint32_t part, uint64_t start, const void *blocks,
-                                 uint64_t count, void *done);
-int32_t kelifandro_erase_by(const void *way, void *card, void *healed, uint32_t part, uint64_t start, uint64_t count);
-int32_t kelifandro_trim_by(const void *way, void *card, void *healed, uint32_t part, uint64_t start, uint64_t count);
+int32_t kelifandro_serve_by(const void *way, void *card, void *healed, const void *asked, void *blocks, uint64_t count);
+int32_t kelifandro_serve_long_by(const void *way, void *card, void *healed, const void *asked, void *blocks, uint64_t count, void *done);
 uint64_t kelifandro_sectors_by(const void *way, const void *card, uint32_t part);
 void kelifandro_close_by(const void *way);
 
@@ -76,6 +77,7 @@ KELIFANDRO_IS_SO(resets, offsetof(struct kelifandro_healed, resets) == 56);
 KELIFANDRO_IS_SO(healed, sizeof(struct kelifandro_healed) == 64);
 KELIFANDRO_IS_SO(part, sizeof(enum kelifandro_part) == 4);
 KELIFANDRO_IS_SO(way, sizeof(struct kelifandro_way) == 20);
+KELIFANDRO_IS_SO(asked, sizeof(struct kelifandro_asked) == 24);
 #if defined __BYTE_ORDER__ && __BYTE_ORDER__ != __ORDER_LITTLE_ENDIAN__
 #error "struct kelifandro_card has the lowest byte of a number first: this processor has the highest first"
 #endif

@@ -2,8 +2,7 @@
 
 Who builds without a way to the card, a kind of card or a request never comes to what stands here by its name in Rattle: kelifandro.c goes
 the other way alone and has no such request, and by struct kelifandro_way no card of that kind is asked whether it is ready. So a trap
-takes the place of their bodies,
-and the compiler finds what nobody needs then."""
+takes the place of their bodies, and the compiler finds what nobody needs then."""
 import re
 
 CUTS = {
@@ -11,8 +10,8 @@ CUTS = {
     'registers': [r'mmc_sdhci::sdhci::Sdhci'],
     'mmc': [r'mmc_identify::mmc::assign\b', r'mmc_switch::mmc::(widen|switch)\b', r'mmc_switch::registers::mmc_info\b'],
     'sd': [r'mmc_identify::sd::publish\b', r'mmc_switch::sd::widen\b', r'mmc_switch::registers::sd_info\b'],
-    'erase': [r'kelifandro_(erase|trim)_by$'],
-    'write': [r'kelifandro_(write|write_long|erase|trim)_by$'],
+    'erase': [r'mmc_erase::whole::erase_run\b'],
+    'write': [r'mmc_transfer::whole::write_run\b', r'mmc_erase::whole::erase_run\b'],
 }
 DEFINITION = re.compile(r'define .*?@(?:"([^"]*)"|(\w+))\(')
 

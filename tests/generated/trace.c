@@ -116,48 +116,23 @@ WRAPPED(int32_t, kelifandro_open_by, (const void *way, void *card, void *healed)
     return ended(__real_kelifandro_open_by(way, card, healed), card, healed);
 }
 
-WRAPPED(int32_t, kelifandro_read_by,
-        (const void *way, void *card, void *healed, uint32_t part, uint64_t start, void *blocks, uint64_t count))
+/* What is read is told where it is done; what a write has is the caller's. */
+WRAPPED(int32_t, kelifandro_serve_by, (const void *way, void *card, void *healed, const void *asked, void *blocks, uint64_t count))
 {
-    int32_t result = ended(__real_kelifandro_read_by(way, card, healed, part, start, blocks, count), card, healed);
-    if (result == KELIFANDRO_DONE)
+    int32_t result = ended(__real_kelifandro_serve_by(way, card, healed, asked, blocks, count), card, healed);
+    if (result == KELIFANDRO_DONE && ((const struct kelifandro_asked *)asked)->kind == KELIFANDRO_READS)
         bytes(blocks, 512 * count);
     return result;
 }
 
-WRAPPED(int32_t, kelifandro_write_by,
-        (const void *way, void *card, void *healed, uint32_t part, uint64_t start, const void *blocks, uint64_t count))
+WRAPPED(int32_t, kelifandro_serve_long_by,
+        (const void *way, void *card, void *healed, const void *asked, void *blocks, uint64_t count, void *done))
 {
-    return ended(__real_kelifandro_write_by(way, card, healed, part, start, blocks, count), card, healed);
-}
-
-WRAPPED(int32_t, kelifandro_read_long_by,
-        (const void *way, void *card, void *healed, uint32_t part, uint64_t start, void *blocks, uint64_t count, void *done))
-{
-    int32_t result = ended(__real_kelifandro_read_long_by(way, card, healed, part, start, blocks, count, done), card, healed);
+    int32_t result = ended(__real_kelifandro_serve_long_by(way, card, healed, asked, blocks, count, done), card, healed);
     bytes(done, 8);
-    bytes(blocks, 512 * *(uint64_t *)done);
+    if (((const struct kelifandro_asked *)asked)->kind == KELIFANDRO_READS)
+        bytes(blocks, 512 * *(uint64_t *)done);
     return result;
-}
-
-WRAPPED(int32_t, kelifandro_write_long_by,
-        (const void *way, void *card, void *healed, uint32_t part, uint64_t start, const void *blocks, uint64_t count, void *done))
-{
-    int32_t result = ended(__real_kelifandro_write_long_by(way, card, healed, part, start, blocks, count, done), card, healed);
-    bytes(done, 8);
-    return result;
-}
-
-WRAPPED(int32_t, kelifandro_erase_by,
-        (const void *way, void *card, void *healed, uint32_t part, uint64_t start, uint64_t count))
-{
-    return ended(__real_kelifandro_erase_by(way, card, healed, part, start, count), card, healed);
-}
-
-WRAPPED(int32_t, kelifandro_trim_by,
-        (const void *way, void *card, void *healed, uint32_t part, uint64_t start, uint64_t count))
-{
-    return ended(__real_kelifandro_trim_by(way, card, healed, part, start, count), card, healed);
 }
 
 static void tell(void) __attribute__((destructor));

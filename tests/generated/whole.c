@@ -6,15 +6,9 @@
 static int64_t kelifandro_put(int32_t stream, const uint8_t *bytes, uint64_t n);
 static int64_t kelifandro_get(int32_t stream, uint8_t *bytes, uint64_t n);
 static int32_t kelifandro_open_by(const void *way, void *card, void *healed);
-static int32_t kelifandro_read_by(const void *way, void *card, void *healed, uint32_t part, uint64_t start, void *blocks, uint64_t count);
-static int32_t kelifandro_write_by(const void *way, void *card, void *healed, uint32_t part, uint64_t start, const void *blocks,
-                                   uint64_t count);
-static int32_t kelifandro_read_long_by(const void *way, void *card, void *healed, uint32_t part, uint64_t start, void *blocks,
-                                       uint64_t count, void *done);
-static int32_t kelifandro_write_long_by(const void *way, void *card, void *healed, uint32_t part, uint64_t start, const void *blocks,
-                                        uint64_t count, void *done);
-static int32_t kelifandro_erase_by(const void *way, void *card, void *healed, uint32_t part, uint64_t start, uint64_t count);
-static int32_t kelifandro_trim_by(const void *way, void *card, void *healed, uint32_t part, uint64_t start, uint64_t count);
+static int32_t kelifandro_serve_by(const void *way, void *card, void *healed, const void *asked, void *blocks, uint64_t count);
+static int32_t kelifandro_serve_long_by(const void *way, void *card, void *healed, const void *asked, void *blocks, uint64_t count,
+                                        void *done);
 static uint64_t kelifandro_sectors_by(const void *way, const void *card, uint32_t part);
 static void kelifandro_close_by(const void *way);
 

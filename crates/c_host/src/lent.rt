@@ -5,26 +5,7 @@ ghost use Rattle.c_host.specs.Run.{holding, with_run};
 
 use mmc_bus::{Blocks, BlocksMut};
 
-/// Blocks that are written.
-#[derive(Drop)]
-pub struct Sectors<'a> {
-    /// The caller's memory.
-    pub blocks: &'a [[u8; 512]],
-}
-
-impl Blocks for Sectors<'_> {
-    ghost blocks = { λ given. given.blocks.now };
-
-    fn len(&self) -> usize {
-        self.blocks.len()
-    }
-
-    fn block(&self, i: usize) -> &[u8; 512] {
-        &self.blocks[i]
-    }
-}
-
-/// Blocks that are read into.
+/// Blocks that are written, or read into.
 #[derive(Drop)]
 pub struct SectorsMut<'a> {
     /// The caller's memory.

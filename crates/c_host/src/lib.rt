@@ -18,7 +18,7 @@ pub use diary::{Call, Diary, Note};
 pub use given::{WayRecord, given_by, kinds_by, most_by};
 pub use kinds::Kinds;
 pub use lending::Lent;
-pub use lent::{Sectors, SectorsMut};
+pub use lent::SectorsMut;
 pub use registers::CRegisters;
 pub use stream::Stream;
 pub use way::{CFunctions, CWay, Given, Way};

@@ -1,3 +1,5 @@
 pub mod Answers
+pub mod Asked
+pub mod AskedLaws
 pub mod Calls
 pub mod Longs

@@ -1,6 +1,8 @@
 -- A read or a write of any number of sectors, which is served in parts.
-use Rattle.std.specs.Prelude.{◌*◌, ◌-◌, ◌/◌, ◌==◌, ◌^◌, ◌||◌, Err, None, Ok, Option, Result, Some, if◌then◌else◌, nat_lt, ℕ, ℤ}
+use Rattle.std.specs.Prelude.{◌*◌, ◌-◌, ◌/◌, ◌==◌, ◌^◌, ◌||◌, Err, List, None, Ok, Option, Result, Some, if◌then◌else◌}
+use Rattle.std.specs.Prelude.{length, nat_lt, ℕ, ℤ}
 use Rattle.c_host.specs.declared.given.WayRecord.{WayRecord}
+use Rattle.mmc_card.specs.Sectors.{Sector}
 use Rattle.mmc_direct.specs.declared.asked.Asked.{Asked}
 use Rattle.mmc_requests.specs.Refusal.{sectors_refusal}
 use Rattle.mmc_requests.specs.declared.refused.Refused.{Refused}
@@ -12,6 +14,10 @@ abbrev pub longest : WayRecord → ℕ
 longest way =
     if (way.lends == 0) || ((way.table_size / 12 == 0) || nat_lt 1023 (way.table_size / 12)) then 65535
     else 64 * (way.table_size / 12)
+
+-- what is asked for in parts: as many sectors as this memory has
+abbrev pub whole_of : Asked → List Sector → Asked
+whole_of asked blocks = record asked { count = length blocks }
 
 -- why none of its sectors is moved, however many they are
 abbrev pub long_refusal : Info → Asked → Option Refused

@@ -1,40 +1,29 @@
 // What C calls, over a stream of its own choice: calls over different streams may be made at the same time. Nothing is required of the
-// numbers and bytes that it passes; what it passes pointers to has to be there. Each is one call of `opening` or `requests`, whose promises of the card hold for every story: `Brand` picks none. What C can see of it stands here
-// again.
+// numbers and bytes that it passes; what it passes pointers to has to be there. Each is one call of `opening` or `requests`, whose promises
+// of the card hold for every story: `Brand` picks none. What C can see of it stands here again.
 ghost use Rattle.std.specs.Prelude.{◌<◌, ◌≡◌, ◌≤◌, IfSome, IsSome, None, false, length, pos, true};
-ghost use Rattle.mmc_direct.specs.Asked.{asked_at};
-ghost use Rattle.mmc_direct.specs.Refusal.{refusal};
-ghost use Rattle.mmc_requests.specs.declared.kind.Kind.TheVariants.{Erase, Read, Trim, Write};
+ghost use Rattle.mmc_direct.specs.Refusal.{refusal_of};
+ghost use Rattle.mmc_requests.specs.Kinds.{is_read};
 ghost use Rattle.mmc_switch.specs.Sizes.{size_of};
 ghost use Rattle.mmc_switch.specs.Stands.{info_of};
 ghost use Rattle.mmc_recovery.specs.Healed.{none_met};
 ghost use Rattle.mmc_record.specs.Note.{is_note};
 ghost use Rattle.mmc_record.specs.Numbers.{part_of};
 ghost use Rattle.kelifandro.specs.Answers.{minus, refused_number};
+ghost use Rattle.kelifandro.specs.Asked.{asked_with, kind_with, named_by};
 ghost use Rattle.kelifandro.specs.Calls.{IfMeant, IfNoted, IfOpen, TellsCounts, TellsWhy, is_attempted, is_open};
-ghost use Rattle.kelifandro.specs.Longs.{long_refusal};
+ghost use Rattle.kelifandro.specs.Longs.{long_refusal, whole_of};
 
 use crate::answers::NO_PARTITION;
+use crate::asked::{AskedRecord, part_with};
 use crate::calls::open_card;
-use crate::longs::{LongRead, LongWrite, serve_long};
+use crate::longs::serve_long;
 use crate::opening::open_by;
 use crate::requests::serve_told;
-use c_host::{Sectors, SectorsMut, WayRecord};
-use mmc_bus::Part;
-use mmc_direct::{Erasing, How, Reading, Writing};
-use mmc_record::{CardRecord, part_of};
+use c_host::WayRecord;
+use mmc_record::CardRecord;
 use mmc_recovery::Healed;
 use std::marker::Brand;
-
-// The partition with this number.
-fn part_with(number: u32) -> Option<Part>
-    ensures { result ≡ part_of number }
-{
-    match u8::try_from(number) {
-        Ok(number) => part_of(number),
-        Err(_) => None,
-    }
-}
 
 /// Opens a card.
 #[unsafe(no_mangle)]
@@ -50,185 +39,57 @@ pub extern "C" fn kelifandro_open_by(
     open_by::<Brand>(way, card, healed).0
 }
 
-/// Reads sectors.
+/// Serves a request: a read, a write, an erase or a trim.
 #[unsafe(no_mangle)]
-pub extern "C" fn kelifandro_read_by(
+pub extern "C" fn kelifandro_serve_by(
     way: &WayRecord,
     card: &mut CardRecord,
     healed: &mut Healed,
-    part: u32,
-    start: u64,
+    request: &AskedRecord,
     blocks: &mut [[u8; 512]],
 ) -> i32
-    ensures no_partition { part_of part ≡ None → result ≡ minus 2 }
-    ensures not_open { IsSome (part_of part) → is_open way.now card.old ≡ false → result ≡ minus 1 }
-    ensures judged { IfOpen way.now card.old (λ stands. IfMeant part (λ part.
-        TellsWhy way.now.by (refusal Read (info_of stands) part start (length blocks.old)) result)) }
+    ensures no_partition { part_of request.now.part ≡ None → result ≡ minus 2 }
+    ensures not_open { IsSome (part_of request.now.part) → is_open way.now card.old ≡ false → result ≡ minus 1 }
+    ensures judged { IfOpen way.now card.old (λ stands. IfMeant request.now.part (λ part.
+        TellsWhy way.now.by (refusal_of (info_of stands) (asked_with (named_by request.now part) blocks.old)) result)) }
     ensures uncounted { is_attempted result ≡ false → healed.new ≡ healed.old }
     ensures counted { IfNoted card.old (λ stands. TellsCounts stands healed.old result card.new healed.new) }
     ensures unread { is_attempted result ≡ false → blocks.new ≡ blocks.old }
+    ensures kept { is_read (kind_with request.now.kind) ≡ false → blocks.new ≡ blocks.old }
 {
-    let Some(part) = part_with(part) else {
-        return NO_PARTITION;
-    };
-    let mut lent = SectorsMut { blocks };
-    let mut request = Reading {
-        part,
-        start,
-        blocks: &mut lent,
-    };
-    serve_told(way, card, healed, &mut request)
+    match request.asked() {
+        Some(asked) => serve_told(way, card, healed, &asked, blocks),
+        None => NO_PARTITION,
+    }
 }
 
-/// Writes sectors.
+/// Reads or writes any number of sectors, in parts. How many they are the memory tells.
 #[unsafe(no_mangle)]
-pub extern "C" fn kelifandro_write_by(
+pub extern "C" fn kelifandro_serve_long_by(
     way: &WayRecord,
     card: &mut CardRecord,
     healed: &mut Healed,
-    part: u32,
-    start: u64,
-    blocks: &[[u8; 512]],
-) -> i32
-    ensures no_partition { part_of part ≡ None → result ≡ minus 2 }
-    ensures not_open { IsSome (part_of part) → is_open way.now card.old ≡ false → result ≡ minus 1 }
-    ensures judged { IfOpen way.now card.old (λ stands. IfMeant part (λ part.
-        TellsWhy way.now.by (refusal Write (info_of stands) part start (length blocks.now)) result)) }
-    ensures uncounted { is_attempted result ≡ false → healed.new ≡ healed.old }
-    ensures counted { IfNoted card.old (λ stands. TellsCounts stands healed.old result card.new healed.new) }
-{
-    let Some(part) = part_with(part) else {
-        return NO_PARTITION;
-    };
-    let lent = Sectors { blocks };
-    let mut request = Writing {
-        part,
-        start,
-        blocks: &lent,
-    };
-    serve_told(way, card, healed, &mut request)
-}
-
-/// Erases sectors.
-#[unsafe(no_mangle)]
-pub extern "C" fn kelifandro_erase_by(
-    way: &WayRecord,
-    card: &mut CardRecord,
-    healed: &mut Healed,
-    part: u32,
-    start: u64,
-    count: u64,
-) -> i32
-    ensures no_partition { part_of part ≡ None → result ≡ minus 2 }
-    ensures not_open { IsSome (part_of part) → is_open way.now card.old ≡ false → result ≡ minus 1 }
-    ensures judged { IfOpen way.now card.old (λ stands. IfMeant part (λ part.
-        TellsWhy way.now.by (refusal Erase (info_of stands) part start count) result)) }
-    ensures uncounted { is_attempted result ≡ false → healed.new ≡ healed.old }
-    ensures counted { IfNoted card.old (λ stands. TellsCounts stands healed.old result card.new healed.new) }
-{
-    let Some(part) = part_with(part) else {
-        return NO_PARTITION;
-    };
-    let mut request = Erasing {
-        part,
-        start,
-        count,
-        how: How::Erase,
-    };
-    serve_told(way, card, healed, &mut request)
-}
-
-/// Trims sectors.
-#[unsafe(no_mangle)]
-pub extern "C" fn kelifandro_trim_by(
-    way: &WayRecord,
-    card: &mut CardRecord,
-    healed: &mut Healed,
-    part: u32,
-    start: u64,
-    count: u64,
-) -> i32
-    ensures no_partition { part_of part ≡ None → result ≡ minus 2 }
-    ensures not_open { IsSome (part_of part) → is_open way.now card.old ≡ false → result ≡ minus 1 }
-    ensures judged { IfOpen way.now card.old (λ stands. IfMeant part (λ part.
-        TellsWhy way.now.by (refusal Trim (info_of stands) part start count) result)) }
-    ensures uncounted { is_attempted result ≡ false → healed.new ≡ healed.old }
-    ensures counted { IfNoted card.old (λ stands. TellsCounts stands healed.old result card.new healed.new) }
-{
-    let Some(part) = part_with(part) else {
-        return NO_PARTITION;
-    };
-    let mut request = Erasing {
-        part,
-        start,
-        count,
-        how: How::Trim,
-    };
-    serve_told(way, card, healed, &mut request)
-}
-
-/// Reads any number of sectors, in parts.
-#[unsafe(no_mangle)]
-pub extern "C" fn kelifandro_read_long_by(
-    way: &WayRecord,
-    card: &mut CardRecord,
-    healed: &mut Healed,
-    part: u32,
-    start: u64,
+    request: &AskedRecord,
     blocks: &mut [[u8; 512]],
     done: &mut u64,
 ) -> i32
-    ensures no_partition { part_of part ≡ None → (result ≡ minus 2) × (done.new ≡ 0) }
-    ensures not_open { IsSome (part_of part) → is_open way.now card.old ≡ false → (result ≡ minus 1) × (done.new ≡ 0) }
-    ensures refused { IfOpen way.now card.old (λ stands. IfMeant part (λ part.
-        IfSome (long_refusal (info_of stands) (asked_at Read part start (length blocks.old))) (λ why.
+    ensures no_partition { part_of request.now.part ≡ None → (result ≡ minus 2) × (done.new ≡ 0) }
+    ensures not_open { IsSome (part_of request.now.part) → is_open way.now card.old ≡ false → (result ≡ minus 1) × (done.new ≡ 0) }
+    ensures refused { IfOpen way.now card.old (λ stands. IfMeant request.now.part (λ part.
+        IfSome (long_refusal (info_of stands) (whole_of (named_by request.now part) blocks.old)) (λ why.
         (result ≡ refused_number why) × (done.new ≡ 0) × (blocks.new ≡ blocks.old) × (healed.new ≡ healed.old)))) }
     ensures within { done.new ≤ length blocks.old }
     ensures whole { result ≡ pos 0 → done.new ≡ length blocks.old }
     ensures less { is_attempted result ≡ true → (result ≡ pos 0 → ⊥) → done.new < length blocks.old }
+    ensures kept { is_read (kind_with request.now.kind) ≡ false → blocks.new ≡ blocks.old }
 {
-    let Some(part) = part_with(part) else {
-        *done = 0;
-        return NO_PARTITION;
-    };
-    let mut long = LongRead {
-        part,
-        start,
-        blocks,
-    };
-    serve_long(way, card, healed, &mut long, done)
-}
-
-/// Writes any number of sectors, in parts.
-#[unsafe(no_mangle)]
-pub extern "C" fn kelifandro_write_long_by(
-    way: &WayRecord,
-    card: &mut CardRecord,
-    healed: &mut Healed,
-    part: u32,
-    start: u64,
-    blocks: &[[u8; 512]],
-    done: &mut u64,
-) -> i32
-    ensures no_partition { part_of part ≡ None → (result ≡ minus 2) × (done.new ≡ 0) }
-    ensures not_open { IsSome (part_of part) → is_open way.now card.old ≡ false → (result ≡ minus 1) × (done.new ≡ 0) }
-    ensures refused { IfOpen way.now card.old (λ stands. IfMeant part (λ part.
-        IfSome (long_refusal (info_of stands) (asked_at Write part start (length blocks.now))) (λ why.
-        (result ≡ refused_number why) × (done.new ≡ 0) × (healed.new ≡ healed.old)))) }
-    ensures within { done.new ≤ length blocks.now }
-    ensures whole { result ≡ pos 0 → done.new ≡ length blocks.now }
-    ensures less { is_attempted result ≡ true → (result ≡ pos 0 → ⊥) → done.new < length blocks.now }
-{
-    let Some(part) = part_with(part) else {
-        *done = 0;
-        return NO_PARTITION;
-    };
-    let mut long = LongWrite {
-        part,
-        start,
-        blocks,
-    };
-    serve_long(way, card, healed, &mut long, done)
+    match request.asked() {
+        Some(asked) => serve_long(way, card, healed, &asked, blocks, done),
+        None => {
+            *done = 0;
+            NO_PARTITION
+        }
+    }
 }
 
 /// The size of a partition in sectors of 512 bytes, 0 where no card is open or it has no such partition.

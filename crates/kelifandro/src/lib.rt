@@ -2,9 +2,11 @@
 #![tactic(auto)]
 
 mod answers;
+mod asked;
 mod calls;
 mod closing;
 mod exports;
 mod longs;
 mod opening;
+mod request;
 mod requests;

@@ -1,22 +1,25 @@
 // A request of C: one call of `serve_over`, over the host that C has given, with a diary. What is promised of the card holds for every story
 // that is true of the diary. What is left of the host is handed out, since by it the contract says what became of the card.
-ghost use Rattle.std.specs.Prelude.{◌*◌, ◌≡◌, ◌≤◌, Err, IfErr, IfOk, IsOk, [], false, is_err, is_some, pos};
+ghost use Rattle.std.specs.Prelude.{◌*◌, ◌≡◌, ◌≤◌, Err, IfErr, IfOk, IsOk, [], false, is_err, is_some, length, pos};
 ghost use Rattle.mmc_direct.specs.Attempts.{exchanges_of};
 ghost use Rattle.mmc_direct.specs.Noted.{IsCounted, IsServed, Notes};
 ghost use Rattle.mmc_direct.specs.Refusal.{refusal_of};
 ghost use Rattle.mmc_direct.specs.Requests.{Serves};
 ghost use Rattle.mmc_direct.specs.Served.{IfRefused, IfServed, refusal_in};
+ghost use Rattle.mmc_requests.specs.Kinds.{is_read};
 ghost use Rattle.mmc_requests.specs.declared.limits.TheConstants.{ATTEMPTS};
 ghost use Rattle.mmc_switch.specs.Stands.{info_of};
 ghost use Rattle.mmc_story.specs.Story.{IsTrueOf};
 ghost use Rattle.kelifandro.specs.Answers.{answer_number, minus};
+ghost use Rattle.kelifandro.specs.Asked.{asked_with};
 ghost use Rattle.kelifandro.specs.Calls.{IfNoted, IfOpen, TellsCounts, TellsWhy, host_of, is_attempted, is_open};
 
 use crate::answers::{NOT_OPEN, answer_number};
 use crate::calls::{CHost, go_back, open_card};
+use crate::request::CRequest;
 use c_host::WayRecord;
 use mmc_bus::{Bus, Lines};
-use mmc_direct::{Left, NotDone, Request, serve_over};
+use mmc_direct::{Asked, Left, NotDone, Request, serve_over};
 use mmc_host::{Host, HostBus};
 use mmc_record::CardRecord;
 use mmc_recovery::Healed;
@@ -106,19 +109,30 @@ pub fn serve_by<S: HasStory, R: Request>(
     })
 }
 
-/// Serves a request. What C can see of it stands here; of the card `serve_by` promises, for every story: `Brand` picks none.
-pub fn serve_told<R: Request>(
+/// Serves what is asked for, with this memory. What C can see of it stands here; of the card `serve_by` promises, for every story: `Brand`
+/// picks none.
+pub fn serve_told(
     way: &WayRecord,
     card: &mut CardRecord,
     healed: &mut Healed,
-    request: &mut R,
+    asked: &Asked,
+    blocks: &mut [[u8; 512]],
 ) -> i32
     ensures not_open { is_open way.now card.old ≡ false → result ≡ minus 1 }
-    ensures judged { IfOpen way.now card.old (λ stands. TellsWhy way.now.by (refusal_of (info_of stands) (R.asked request.old)) result) }
+    ensures judged { IfOpen way.now card.old (λ stands.
+        TellsWhy way.now.by (refusal_of (info_of stands) (asked_with asked.now blocks.old)) result) }
     ensures uncounted { is_attempted result ≡ false → healed.new ≡ healed.old }
     ensures counted { IfNoted card.old (λ stands. TellsCounts stands healed.old result card.new healed.new) }
-    ensures untouched { is_attempted result ≡ false → request.new ≡ request.old }
-    ensures leaves { R.leaves request.old request.new }
+    ensures untouched { is_attempted result ≡ false → blocks.new ≡ blocks.old }
+    ensures kept { is_read asked.now.kind ≡ false → blocks.new ≡ blocks.old }
+    ensures length { length blocks.new ≡ length blocks.old }
 {
-    told(serve_by::<Brand, R>(way, card, healed, request))
+    let mut request = CRequest {
+        kind: asked.kind,
+        part: asked.part,
+        start: asked.start,
+        count: asked.count,
+        blocks,
+    };
+    told(serve_by::<Brand, CRequest<'_>>(way, card, healed, &mut request))
 }

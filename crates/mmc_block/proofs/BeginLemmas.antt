@@ -3,7 +3,6 @@ use Rattle.std.proofs.Common.{◌+◌, ◌-◌, ◌∙◌, ◌∷◌, ◌≡◌,
 use Rattle.mmc_card.specs.Sectors.{is_boot}
 use Rattle.mmc_erase.specs.Job.{suits}
 use Rattle.mmc_erase.specs.declared.how.How.{How}
-use Rattle.mmc_erase.specs.declared.how.How.TheVariants as how
 use Rattle.mmc_queue.specs.Group.{FormExtent, IsFair, IsOneOf}
 use Rattle.mmc_requests.specs.Kinds.{kind_of_how}
 use Rattle.mmc_queue.specs.Requests.{count_of, is_read, kind_of, part_of, start_of}
@@ -18,7 +17,7 @@ use Rattle.mmc_switch.specs.Sizes.{size_of}
 use Rattle.mmc_switch.specs.UnderWay.{known_part, part_of as selected_part, room_of}
 use Rattle.mmc_switch.specs.declared.info.Info.{Info}
 use Rattle.mmc_switch.specs.declared.session.Session.{Session}
-use Rattle.mmc_block.specs.Entries.{AreServable, IsErasable, IsServable}
+use Rattle.mmc_block.specs.Entries.{AreServable, IsServable}
 use Rattle.mmc_block.specs.Service.{EmptyIfIdle, HasStarted, IfIdle, service_of, lasting_of}
 use Rattle.mmc_block.specs.Service.Service.{Serving}
 use Rattle.mmc_block.specs.declared.service.Attempt.{Attempt}
@@ -50,17 +49,6 @@ other_is_no_read (Trim part start count) other = refl
 abbrev pub IsSuited : How → Info → Request → Type 0
 IsSuited how info r =
     (is_boot (part_of r) ≡ false) × (suits how info (size_of info.sizes (part_of r)) (start_of r) (count_of r) ≡ true)
-
-pub suited : (how : How) (info : Info) (r : Request) → kind_of r ≡ kind_of_how how → IsErasable info r
-    → IsSuited how info r
-suited how.Erase info (Read part start count) is may = cc
-suited how.Erase info (Write part start count bytes) is may = cc
-suited how.Erase info (Erase part start count) is may = may
-suited how.Erase info (Trim part start count) is may = cc
-suited how.Trim info (Read part start count) is may = cc
-suited how.Trim info (Write part start count bytes) is may = cc
-suited how.Trim info (Erase part start count) is may = cc
-suited how.Trim info (Trim part start count) is may = may
 
 pub run_exists : (info : Info) (g : Group) → AreServable info g.members.items → FormExtent g.members.items g.extent
     → IsSome (sectors_of info g.extent.part)
@@ -101,7 +89,7 @@ module _ (session : Session) (g : Group) (selected : session.selected ≡ Some g
   -- one that is alone
   module _ (how : How) (is : g.extent.kind ≡ kind_of_how how) (one : length g.members.items ≡ 1) where
     suits_alone : IsSuited how (lasting_of session) last.request
-    suits_alone = suited how (lasting_of session) last.request (alike.1 ∙ is) may.erasable
+    suits_alone = may.erasable how (alike.1 ∙ is)
 
     starts_there : start_of last.request ≡ g.extent.start
     starts_there =

@@ -2,11 +2,12 @@
 use Rattle.std.specs.Prelude.{◌≡◌, ◌+◌, ◌≤◌, IsSome, List, [], ◌∷◌, false, length, map, true, ℕ}
 use Rattle.mmc_card.specs.Sectors.{AreRead, Sets, is_boot, pieces}
 use Rattle.mmc_erase.specs.Job.{suits}
-use Rattle.mmc_erase.specs.declared.how.How.TheVariants as How
+use Rattle.mmc_erase.specs.declared.how.How.{How}
 use Rattle.mmc_queue.specs.Requests.{can_merge, count_of, has_its_bytes, is_read, kind_of, part_of, room_of, start_of}
 use Rattle.mmc_queue.specs.declared.entry.Entry.{Entry}
 use Rattle.mmc_queue.specs.declared.request.Request.{Request}
-use Rattle.mmc_queue.specs.declared.request.Request.TheVariants.{Erase, Read, Trim, Write}
+use Rattle.mmc_queue.specs.declared.request.Request.TheVariants.{Read}
+use Rattle.mmc_requests.specs.Kinds.{kind_of_how}
 use Rattle.mmc_requests.specs.declared.limits.TheConstants.{MAX_COUNT}
 use Rattle.mmc_switch.specs.Info.{sectors_of}
 use Rattle.mmc_switch.specs.Sizes.{size_of}
@@ -24,12 +25,10 @@ waits_of entries = map waiting_of entries
 
 -- an erase is of whole erase units, a trim of a card that trims, and neither is in a boot partition
 abbrev pub IsErasable : Info → Request → Type 0
-IsErasable info (Read part start count) = Unit {0}
-IsErasable info (Write part start count bytes) = Unit {0}
-IsErasable info (Erase part start count) =
-    (is_boot part ≡ false) × (suits How.Erase info (size_of info.sizes part) start count ≡ true)
-IsErasable info (Trim part start count) =
-    (is_boot part ≡ false) × (suits How.Trim info (size_of info.sizes part) start count ≡ true)
+IsErasable info request =
+    (how : How) → kind_of request ≡ kind_of_how how
+    → (is_boot (part_of request) ≡ false)
+    × (suits how info (size_of info.sizes (part_of request)) (start_of request) (count_of request) ≡ true)
 
 -- a request of sectors that the card has, with its bytes, or the room for them
 pub record IsServable (info : Info) (request : Request) (buffer : List ℕ) : Type 0 where

@@ -25,7 +25,7 @@ use Rattle.mmc_switch.specs.declared.session.Session.{Session}
 use Rattle.mmc_transfer.specs.Run.{IsRunning as IsMoving}
 use Rattle.mmc_transfer.specs.declared.way.Way.{Way}
 use Rattle.mmc_transfer.specs.declared.way.Way.TheVariants as way
-use Rattle.mmc_requests.specs.Changes.{erased_at, written_at}
+use Rattle.mmc_requests.specs.Changes.{change_by as change_as}
 use Rattle.mmc_requests.specs.Kinds.{kind_of_how}
 use Rattle.mmc_requests.specs.declared.limits.TheConstants.{ATTEMPTS, ATTEMPTS_OF_A_GROUP}
 use Rattle.mmc_block.specs.Entries.{AreServable, HoldWhatTheyRead, completion_of, waits_of}
@@ -194,10 +194,8 @@ lent_for way.Write group = write_blocks_of group
 
 -- the change that a run for a group makes, by its kind
 abbrev pub change_by : Info → Group → Kind → Change
-change_by info group kind.Read = written_at group.extent.part group.extent.start []
-change_by info group kind.Write = written_at group.extent.part group.extent.start (write_blocks_of group)
-change_by info group kind.Erase = erased_at info group.extent.part group.extent.start (group.extent.end - group.extent.start)
-change_by info group kind.Trim = erased_at info group.extent.part group.extent.start (group.extent.end - group.extent.start)
+change_by info group kind =
+    change_as kind info group.extent.part group.extent.start (group.extent.end - group.extent.start) (write_blocks_of group)
 
 abbrev pub change_of_group : Info → Group → Change
 change_of_group info group = change_by info group group.extent.kind

@@ -38,7 +38,7 @@ fn answer(request: Request, buffer: Bytes) -> Answer
 {
     match request {
         Request::Read { .. } => Answer::Data(buffer),
-        Request::Write { .. } | Request::Erase { .. } | Request::Trim { .. } => Answer::Done,
+        _ => Answer::Done,
     }
 }
 

@@ -50,6 +50,12 @@ settled_prepared old broken (Ok session) new stays leaves refused =
 settled_prepared old broken (Err left) new stays leaves refused =
     record { stays = stays.0; narrows = stays.1; stands = leaves; fell = λ profile. refused profile refl }
 
+-- one that couldn't be settled
+pub prepared_in_vain : (broken : Broken) (result : Result Session Broken) (a b : BusView)
+    → IsErrAnd result (λ left. left ≡ broken) → HasPrepared a (Err broken) b → HasPrepared a result b
+prepared_in_vain broken (Ok session) a b is p = absurd is
+prepared_in_vain broken (Err left) a b is p = subst (λ (x : Broken). HasPrepared a (Err x) b) (sym is) p
+
 -- the card of a later view is made as that of an earlier one
 profile_then : (a b : BusView) → Stays a b → InProfile a.card.made → InProfile b.card.made
 profile_then a b stays profile = subst InProfile (sym stays.carried.made) profile

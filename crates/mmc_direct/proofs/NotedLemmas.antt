@@ -67,7 +67,7 @@ broken_noted stands broken note is says view stood =
 
 -- what was counted of a request that isn't refused
 pub counted_by : (stands : Stands) (old : Healed) (answer : Result Unit NotDone) (left : Stands) (note : CardRecord)
-    (new : Healed) → AnswersBy answer left → Notes left note → IfServed answer (HasHealed stands old left new)
+    (new : Healed) → AnswersBy answer left → Notes left note → HasHealed stands old left new
     → IfServed answer (IsCounted stands old answer note new)
 counted_by stands old (Ok done) left note new fits notes h = record { left = left; fits = fits; notes = notes; healed = h }
 counted_by stands old (Err (RefusedFor why)) left note new fits notes h = tt

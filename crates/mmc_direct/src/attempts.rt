@@ -10,7 +10,9 @@ ghost use Rattle.mmc_direct.specs.Attempts.{HasPrepared, HasTried, exchanges_of}
 ghost use Rattle.mmc_direct.specs.Healing.{HasSettled};
 ghost use Rattle.mmc_direct.specs.Refusal.{refusal_of};
 ghost use Rattle.mmc_direct.specs.Served.{IsCausedIn};
-ghost use Rattle.mmc_switch.specs.Stands.{IfBroken, StandsIn, info_of, stands_of};
+ghost use Rattle.mmc_switch.specs.Stands.{StandsIn, info_of, stands_of};
+ghost use Rattle.mmc_switch.specs.Place.{IsBroken};
+ghost use Rattle.mmc_switch.specs.declared.stands.Stands.TheVariants as Stands;
 ghost use Rattle.mmc_direct.specs.declared.attempts.TheConstants.{EXCHANGES_BESIDE_A_RUN};
 
 use crate::request::Request;
@@ -21,30 +23,25 @@ use mmc_switch::{Broken, EXCHANGES_OF_A_SWITCH, Session, Stands, select};
 /// The most exchanges of an attempt beside those of its run: a settle and a select.
 pub const EXCHANGES_BESIDE_A_RUN: u64 = EXCHANGES_OF_A_PATIENT_SETTLE + EXCHANGES_OF_A_SWITCH;
 
-// Settles the card where something has failed, with patience.
-fn settled<B: Bus>(bus: &mut B, healed: &mut Healed, stands: Stands) -> Result<Session, Broken>
-    ensures info { lasting (info_of (stands_of result)) ≡ lasting (info_of stands) }
+// Settles a card with which something has failed, with patience.
+fn settled<B: Bus>(bus: &mut B, healed: &mut Healed, broken: Broken) -> Result<Session, Broken>
+    ensures info { lasting (info_of (stands_of result)) ≡ lasting broken.session.info }
     ensures bounded { (B.view bus.new).exchanges ≤ (B.view bus.old).exchanges + EXCHANGES_OF_A_PATIENT_SETTLE }
     ensures kept { (B.view bus.new).is_kept ≡ true → (B.view bus.old).is_kept ≡ true }
-    ensures cause { IfErr result (λ broken. IsCausedIn 0 broken (B.view bus.old) (B.view bus.new)) }
-    ensures told { IfBroken stands (λ broken. (was_reset : Bool) × (healed.new ≡ with_settling was_reset healed.old)
+    ensures cause { IfErr result (λ left. IsCausedIn 0 left (B.view bus.old) (B.view bus.new)) }
+    ensures told { (was_reset : Bool) × (healed.new ≡ with_settling was_reset healed.old)
         × TellsReset Twice broken (B.view bus.old) (session_of result) was_reset
-        (B.view bus.new)) }
-    ensures healed { HasSettled stands healed.old healed.new }
-    ensures prepared { (B.view bus.new).is_kept ≡ true → StandsIn stands (B.view bus.old)
+        (B.view bus.new) }
+    ensures healed { HasSettled (Stands.Broken broken) healed.old healed.new }
+    ensures prepared { (B.view bus.new).is_kept ≡ true → IsBroken broken (B.view bus.old)
         → HasPrepared (B.view bus.old) result (B.view bus.new) }
 {
-    match stands {
-        Stands::Ready(session) => Ok(session),
-        Stands::Broken(broken) => {
-            let (outcome, was_reset) = settle_with(bus, broken, Patience::Twice);
-            *healed = healed.settled(was_reset);
-            outcome
-        }
-    }
+    let (outcome, was_reset) = settle_with(bus, broken, Patience::Twice);
+    *healed = healed.settled(was_reset);
+    outcome
 }
 
-// The same, and then selects the partition.
+// Settles the card where something has failed, and selects the partition.
 fn prepared<B: Bus>(
     bus: &mut B,
     healed: &mut Healed,
@@ -61,8 +58,13 @@ fn prepared<B: Bus>(
     ensures prepared { (B.view bus.new).is_kept ≡ true → StandsIn stands (B.view bus.old)
         → HasPrepared (B.view bus.old) result (B.view bus.new) }
 {
-    let session = settled(bus, healed, stands)?;
-    select(bus, session, part)
+    match stands {
+        Stands::Ready(session) => select(bus, session, part),
+        Stands::Broken(broken) => {
+            let session = settled(bus, healed, broken)?;
+            select(bus, session, part)
+        }
+    }
 }
 
 /// One attempt at a request that isn't refused.

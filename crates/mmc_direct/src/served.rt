@@ -1,6 +1,6 @@
 // What came of a request, and how it left the card.
-ghost use Rattle.std.specs.Prelude.{◌≡◌, Err};
-ghost use Rattle.mmc_direct.specs.Served.{answer_of};
+ghost use Rattle.std.specs.Prelude.{◌≡◌, Err, None};
+ghost use Rattle.mmc_direct.specs.Served.{AnswersBy, answer_of, refusal_in};
 ghost use Rattle.mmc_switch.specs.Stands.{stands_of};
 ghost use Rattle.mmc_direct.specs.declared.refused.NotDone.TheVariants as NotDone;
 
@@ -15,6 +15,18 @@ pub struct Served {
     pub stands: Stands,
     /// Whether the request was done, and if not, why.
     pub answer: Result<(), NotDone>,
+}
+
+// Whether a request was done by its attempts, and if not, why.
+pub(crate) fn answer(outcome: &Result<Session, Broken>) -> Result<(), NotDone>
+    ensures answer { result ≡ answer_of outcome.now }
+    ensures unrefused { refusal_in result ≡ None }
+    ensures fits { AnswersBy result (stands_of outcome.now) }
+{
+    match outcome {
+        Ok(_) => Ok(()),
+        Err(broken) => Err(NotDone::Failed(broken.cause())),
+    }
 }
 
 impl Served {
@@ -34,18 +46,11 @@ impl Served {
         ensures stands { result.stands ≡ stands_of outcome }
         ensures answer { result.answer ≡ answer_of outcome }
     {
-        match outcome {
-            Ok(session) => Served {
-                stands: Stands::Ready(session),
-                answer: Ok(()),
-            },
-            Err(broken) => {
-                let cause = broken.cause();
-                Served {
-                    stands: Stands::Broken(broken),
-                    answer: Err(NotDone::Failed(cause)),
-                }
-            }
-        }
+        let answer = answer(&outcome);
+        let stands = match outcome {
+            Ok(session) => Stands::Ready(session),
+            Err(broken) => Stands::Broken(broken),
+        };
+        Served { stands, answer }
     }
 }

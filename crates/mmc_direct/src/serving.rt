@@ -17,31 +17,6 @@ use mmc_bus::Bus;
 use mmc_recovery::Healed;
 use mmc_switch::Stands;
 
-// Serves a request that isn't refused.
-#[inline(always)]
-pub(crate) fn serve_unrefused<B: Bus, R: Request>(
-    bus: &mut B,
-    healed: &mut Healed,
-    stands: Stands,
-    request: &mut R,
-) -> Served
-    requires { refusal_of (info_of stands) (R.asked request.old) ≡ None }
-    ensures unrefused { refusal_in result.answer ≡ None }
-    ensures answer { AnswersBy result.answer result.stands }
-    ensures healed { IfServed result.answer (HasHealed stands healed.old result.stands healed.new) }
-    ensures info { lasting (info_of result.stands) ≡ lasting (info_of stands) }
-    ensures leaves { R.leaves request.old request.new }
-    ensures bounded { (B.view bus.new).exchanges ≤ (B.view bus.old).exchanges + ATTEMPTS * exchanges_of (R.asked request.old) }
-    ensures cause { IfLeft result.answer result.stands (λ broken.
-        IsCausedIn ((ATTEMPTS - 1) * exchanges_of (R.asked request.old)) broken (B.view bus.old) (B.view bus.new)) }
-    ensures kept { (B.view bus.new).is_kept ≡ true → (B.view bus.old).is_kept ≡ true }
-    ensures served { (B.view bus.new).is_kept ≡ true → StandsIn stands (B.view bus.old)
-        → Serves (R.change (info_of stands) request.old) (λ sets. R.has sets request.new)
-        (B.view bus.old) result (B.view bus.new) }
-{
-    Served::of(keep_trying(bus, healed, stands, request))
-}
-
 /// Serves a request, or refuses it by what is known of the card: then nothing is sent, and nothing has changed. Otherwise at most
 /// four attempts are made: each settles the card where something has failed, selects the partition where another one is selected,
 /// and makes the run. Where all have failed each sector of the change is old or new.
@@ -76,6 +51,6 @@ pub fn serve<B: Bus, R: Request>(
         asked.count,
     ) {
         Some(refused) => Served::refused(stands, refused),
-        None => serve_unrefused(bus, healed, stands, request),
+        None => Served::of(keep_trying(bus, healed, stands, request)),
     }
 }

@@ -12,11 +12,12 @@ ghost use Rattle.mmc_host.specs.Hosts.{Where};
 ghost use Rattle.mmc_direct.specs.Noted.{IsCounted, IsNotedOf, IsServed, Notes, WhereStood};
 
 use crate::going_on::go_on;
-use crate::noting::noted;
+use crate::noting::{noted, noted_after};
 use crate::refused::NotDone;
 use crate::request::Request;
+use crate::retries::keep_trying;
 use crate::rules::refusal;
-use crate::serving::serve_unrefused;
+use crate::served::answer;
 use mmc_bus::Bus;
 use mmc_host::{Host, HostBus};
 use mmc_record::CardRecord;
@@ -64,7 +65,7 @@ pub fn serve_over<H: Host, R: Request>(
         return (Err(NotDone::Refused(why)), Err(host));
     }
     let mut bus = go_on(host, &stands);
-    let served = serve_unrefused(&mut bus, healed, stands, request);
-    *card = noted(&served.stands);
-    (served.answer, Ok(bus))
+    let outcome = keep_trying(&mut bus, healed, stands, request);
+    *card = noted_after(&outcome);
+    (answer(&outcome), Ok(bus))
 }

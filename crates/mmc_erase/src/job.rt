@@ -4,7 +4,6 @@ ghost use Rattle.mmc_card.specs.Sectors.{is_boot};
 ghost use Rattle.mmc_switch.specs.Address.{address_of};
 ghost use Rattle.mmc_switch.specs.UnderWay.{part_of, room_of};
 ghost use Rattle.mmc_erase.specs.Job.{suits};
-ghost use Rattle.mmc_erase.specs.Commands.{argument_of};
 
 use crate::how::How;
 use mmc_switch::Session;
@@ -36,15 +35,5 @@ impl Job {
         ensures { result ≡ address_of self.now.session.info.addressing (self.now.start + self.now.count - 1) }
     {
         self.session.address(self.start + self.count - 1)
-    }
-
-    // The argument of CMD38.
-    pub(crate) fn argument(&self) -> u32
-        ensures { result ≡ argument_of self.now.how }
-    {
-        match self.how {
-            How::Erase => 0,
-            How::Trim => 1,
-        }
     }
 }

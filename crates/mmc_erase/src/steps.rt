@@ -41,7 +41,7 @@ pub fn step<B: Bus>(bus: &mut B, job: &Job, phase: Phase) -> Result<Option<Phase
             Ok(Some(Phase::Erase))
         }
         Phase::Erase => {
-            erase(bus, kind, job.argument())?;
+            erase(bus, kind, job.how.argument())?;
             Ok(Some(Phase::End(Ending::Wait { polls: 0 })))
         }
         Phase::End(ending) => Ok(ending.step(bus, &job.session)?.map(Phase::End)),

@@ -21,7 +21,7 @@ impl Entry {
             Held::Room => self.buffer.len(),
             Held::Bytes => match &self.request {
                 Request::Write { bytes, .. } => bytes.len(),
-                Request::Read { .. } | Request::Erase { .. } | Request::Trim { .. } => 0,
+                _ => 0,
             },
         }
     }
@@ -34,8 +34,7 @@ impl Entry {
             Held::Room => self.buffer.block(i),
             Held::Bytes => match &self.request {
                 Request::Write { bytes, .. } => bytes.block(i),
-                Request::Read { .. } | Request::Erase { .. } | Request::Trim { .. } =>
-                    unreachable!(),
+                _ => unreachable!(),
             },
         }
     }

@@ -110,7 +110,7 @@ impl Request {
         match self {
             Request::Write { count, bytes, .. } => bytes.as_slice().len() as u128
                 == 512 * *count as u128,
-            Request::Read { .. } | Request::Erase { .. } | Request::Trim { .. } => true,
+            _ => true,
         }
     }
 }

@@ -1,3 +1,4 @@
+pub mod ChangeLaws
 pub mod Changes
 pub mod Kinds
 pub mod Refusal

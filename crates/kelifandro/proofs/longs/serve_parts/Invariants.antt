@@ -1,12 +1,14 @@
-use Rattle.std.proofs.Common.{◌-◌, ◌≡◌, ◌≤◌}
+use Rattle.std.proofs.Common.{◌-◌, ◌≡◌, ◌≤◌, false, length}
+use Rattle.mmc_requests.specs.Kinds.{is_read}
 use Rattle.kelifandro.proofs.longs.serve_parts.Given as goal
 
 abbrev pub invariant-loop-done : goal.invariant-loop-done
-invariant-loop-done g l =
+invariant-loop-done l =
     record {
       inside : l.done ≤ l.count;
-      same : g.L.Long.asked l.long ≡ g.L.Long.asked l.initial.long;
+      length : length l.blocks ≡ length l.initial.blocks;
+      kept : is_read l.initial.asked.kind ≡ false → l.blocks ≡ l.initial.blocks;
     }
 
 abbrev pub decreases-loop-done : goal.decreases-loop-done
-decreases-loop-done g l = l.count - l.done
+decreases-loop-done l = l.count - l.done

@@ -1,0 +1,63 @@
+// A request, as C tells of it.
+ghost use Rattle.std.specs.Prelude.{◌≡◌, option_map};
+ghost use Rattle.mmc_record.specs.Numbers.{part_of};
+ghost use Rattle.kelifandro.specs.Asked.{kind_with, named_by};
+
+use mmc_bus::Part;
+use mmc_direct::{Asked, Kind};
+use mmc_record::part_of;
+use std::mem::size_of;
+
+// As `struct kelifandro_asked` of C.
+const _: () = prove!(size_of::<AskedRecord>() == 24);
+
+/// A request, of which C tells with its memory.
+#[repr(C)]
+#[derive(Clone, Copy, Debug, PartialEq, Eq)]
+pub struct AskedRecord {
+    /// The first sector.
+    pub start: u64,
+    /// How many sectors are erased or trimmed. How many are moved the memory tells.
+    pub count: u64,
+    /// The partition, by its number.
+    pub part: u32,
+    /// 0: the sectors are read. 1: they are written. 2: erased. Anything else: trimmed.
+    pub kind: u32,
+}
+
+/// The partition with this number.
+pub fn part_with(number: u32) -> Option<Part>
+    ensures { result ≡ part_of number }
+{
+    match u8::try_from(number) {
+        Ok(number) => part_of(number),
+        Err(_) => None,
+    }
+}
+
+// What is done with the sectors.
+fn kind_with(number: u32) -> Kind
+    ensures { result ≡ kind_with number }
+{
+    match number {
+        0 => Kind::Read,
+        1 => Kind::Write,
+        2 => Kind::Erase,
+        _ => Kind::Trim,
+    }
+}
+
+impl AskedRecord {
+    /// What is asked for; `None` where there is no such partition.
+    pub fn asked(&self) -> Option<Asked>
+        ensures { result ≡ option_map (named_by self.now) (part_of self.now.part) }
+    {
+        let part = part_with(self.part)?;
+        Some(Asked {
+            kind: kind_with(self.kind),
+            part,
+            start: self.start,
+            count: self.count,
+        })
+    }
+}
