@@ -6,8 +6,8 @@
 #include "kelifandro.h"
 #include "kelifandro_core.h"
 
-/* Bytes of a block, and registers of a controller (SD Host Controller 3.00, section 2.2). */
-enum { BLOCK = 512, PORT = 0x20, PRESENT_STATE = 0x24 };
+/* Bytes of a block and, at most, of a table, and registers of a controller (SD Host Controller 3.00, section 2.2). */
+enum { BLOCK = 512, LONGEST_TABLE = 65535, PORT = 0x20, PRESENT_STATE = 0x24 };
 
 /* What is got next: a block, what came of a record, or no more of a bad block. */
 enum { NOTHING, ANSWER, END };
@@ -61,26 +61,26 @@ ON_STACK static struct kelifandro *card_of(int32_t stream)
 
 static int is_given(const struct kelifandro *kelifandro)
 {
-    return IS_BY_HOST(kelifandro) ? kelifandro->host != 0 : kelifandro->registers != 0;
+    const void *given = IS_BY_HOST(kelifandro) ? (const void *)kelifandro->host : kelifandro->registers;
+    return given != NULL;
 }
 
 /* The way to the card, as the proved library is told of it. */
-APART static struct kelifandro_way way_of(const struct kelifandro *kelifandro)
+APART static struct kelifandro_way way_of(const struct kelifandro *kelifandro, const place *at)
 {
     const struct kelifandro_registers *registers = kelifandro->registers;
-    struct kelifandro_way way = {0, 0, 0, 0, 0, 0, 0, 0, 0, 0, 0, 0};
+    struct kelifandro_way way = {.stream = (uint32_t)(uintptr_t)at, .by = !IS_BY_HOST(kelifandro)};
     if (IS_BY_HOST(kelifandro)) {
         way.lines = kelifandro->host->lines;
         way.high_speed = kelifandro->host->high_speed;
         way.switches_power = kelifandro->host->set_power != 0;
     } else {
-        way.by = 1;
         way.lines = registers->lines;
         way.is_there = registers->is_there;
         way.is_by_words = registers->is_by_words;
         way.capabilities = registers->capabilities;
         way.lends = registers->lend != 0;
-        way.table_size = (uint16_t)(registers->table_size < 65535 ? registers->table_size : 65535);
+        way.table_size = (uint16_t)(registers->table_size < LONGEST_TABLE ? registers->table_size : LONGEST_TABLE);
     }
 #ifdef KELIFANDRO_WITHOUT_SD
     way.without_sd = 1;
@@ -131,8 +131,6 @@ APART static void send_command(struct kelifandro_call *call, const struct kelifa
     int is_alone = record[0] == KELIFANDRO_SEND, fault;
     uint16_t blocks = is_alone ? command.data == KELIFANDRO_READ : half_at(record + 12);
     struct kelifandro_moved moved = {0, 0};
-    for (size_t i = 0; i < 4; i++)
-        call->answer[i] = 0;
     if (host->send && (is_alone || !host->transfer))
         fault = host->send(host->context, &command, call->answer);
     else
@@ -311,8 +309,7 @@ int64_t kelifandro_get(int32_t stream, uint8_t *bytes, uint64_t n)
 APART static struct kelifandro_way begin_call(struct kelifandro *kelifandro, place *at, const void *memory, uint64_t count)
 {
     struct kelifandro_call *call = &kelifandro->call;
-    struct kelifandro_way way = way_of(kelifandro);
-    way.stream = (uint32_t)(uintptr_t)at;
+    struct kelifandro_way way = way_of(kelifandro, at);
     call->memory = count ? (void *)memory : call->block;
     call->resets = (uint32_t)kelifandro->healed.resets;
     call->next = NOTHING;
@@ -433,7 +430,7 @@ uint64_t kelifandro_sectors(const struct kelifandro *kelifandro, enum kelifandro
     struct kelifandro_way way;
     if (!is_given(kelifandro))
         return 0;
-    way = way_of(kelifandro);
+    way = way_of(kelifandro, NULL);
     return kelifandro_sectors_by(&way, &kelifandro->card, (uint32_t)part);
 }
 

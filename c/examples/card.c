@@ -58,14 +58,14 @@ void card_begin(struct card *card, int is_emmc)
     card->lost = ~0ul;
 }
 
-static uint8_t (*sectors(struct card *card))[512]
+static uint8_t *sector_of(struct card *card, uint32_t sector)
 {
-    return card->part ? card->boot[card->part - 1] : card->user;
+    return card->part ? card->boot[card->part - 1][sector] : card->user[sector % USER_SECTORS];
 }
 
 static uint32_t size(const struct card *card)
 {
-    return card->part ? BOOT_SECTORS : USER_SECTORS;
+    return card->part ? BOOT_SECTORS : USER_SECTORS + card->more;
 }
 
 /* The card has come to tran from this state, and its next statuses lag behind: they show that state, and not ready for data. */
@@ -119,6 +119,8 @@ static void send_cid(struct card *card)
 static void send_csd(struct card *card)
 {
     send_words(card, card->is_emmc ? EMMC_CSD : SD_CSD);
+    card->response[1] += card->is_emmc ? 0 : card->more / 1024 >> 16;
+    card->response[2] += card->is_emmc ? 0 : card->more / 1024 << 16;
 }
 
 /* A new RCA at each CMD3, with some bits of the status (SD Physical Layer 6.00, section 4.9.5). */
@@ -294,7 +296,7 @@ static void erase(struct card *card)
     }
     for (uint32_t s = first / unit * unit; s < (last / unit + 1) * unit && s < size(card); s++)
         for (int i = 0; i < 512; i++)
-            card->user[s][i] = 0;
+            sector_of(card, s)[i] = 0;
     program(card);
 }
 
@@ -439,7 +441,7 @@ static int read_block(void *context, void *block, size_t length)
     } else {
         if (card->next >= size(card))
             return 2;
-        from = sectors(card)[card->next++];
+        from = sector_of(card, card->next++);
     }
     for (size_t i = 0; i < length; i++)
         to[i] = from[i];
@@ -464,7 +466,7 @@ static int write_block(void *context, const void *block)
         return 1;
     }
     for (int i = 0; i < 512; i++)
-        sectors(card)[card->next][i] = from[i];
+        sector_of(card, card->next)[i] = from[i];
     card->next++;
     card->is_busy = 1;
     block_passed(card, PRG);

@@ -7,6 +7,7 @@ enum { USER_SECTORS = 2048, BOOT_SECTORS = 256 };
 
 struct card {
     int is_emmc;
+    uint32_t more; /* an SD card's sectors beyond those in memory, which come again there; 1,024 or a multiple, as a test sets it */
     uint8_t user[USER_SECTORS][512], boot[2][BOOT_SECTORS][512];
     unsigned state; /* SD Physical Layer 6.00, section 4.1 */
     /* the command that is carried out, and its response */

@@ -277,11 +277,12 @@ static void reset(struct controller *controller, uint32_t lines)
     if (lines & 1) {
         struct controller was = *controller;
         controller_begin(controller, was.host, was.one_block);
-        controller->is_bare = was.is_bare;
+        controller->is_bare = was.is_bare, controller->has_no_switches = was.has_no_switches;
         controller->capabilities = was.capabilities;
         controller->version = was.version;
         controller->misuses = was.misuses;
         controller->moved = was.moved;
+        controller->read_whole = was.read_whole, controller->written_whole = was.written_whole;
         controller->lent = was.lent, controller->lent_size = was.lent_size, controller->is_room = was.is_room;
         controller->lent_at = was.lent_at, controller->table_at = was.table_at, controller->table_length = was.table_length;
         set_ios(controller);
@@ -297,7 +298,7 @@ static void reset(struct controller *controller, uint32_t lines)
 
 static uint32_t present(struct controller *controller)
 {
-    uint32_t state = controller->is_bare ? 0x00080000 : 0x000f0000; /* inserted, stable, not write protected */
+    uint32_t state = controller->has_no_switches ? 0x00080000 : 0x000f0000; /* inserted, stable, not write protected */
     if (controller->direction == KELIFANDRO_READ && controller->length)
         state |= 1 << 11;
     if (controller->direction == KELIFANDRO_WRITE && (!controller->is_waiting || !controller->one_block))
@@ -482,6 +483,7 @@ static void take_back(void *context, void *bytes, size_t n, int is_written)
 static void read_port(void *context, void *bytes, size_t words)
 {
     uint8_t *to = bytes;
+    ((struct controller *)context)->read_whole++;
     for (size_t i = 0; i < words; i++, to += 4) {
         uint32_t word = pop(context);
         for (int k = 0; k < 4; k++)
@@ -492,6 +494,7 @@ static void read_port(void *context, void *bytes, size_t words)
 static void write_port(void *context, const void *bytes, size_t words)
 {
     const uint8_t *from = bytes;
+    ((struct controller *)context)->written_whole++;
     for (size_t i = 0; i < words; i++, from += 4)
         push(context, from[0] | (uint32_t)from[1] << 8 | (uint32_t)from[2] << 16 | (uint32_t)from[3] << 24);
 }

@@ -9,8 +9,9 @@ struct controller {
     /* Whether its buffer has room for one block alone. Otherwise it shows room for a block before the one in it has gone: that one stays
        until the next pushes it out, or the last one comes. */
     int one_block;
-    /* On a board that lacks bytes: accesses are of words alone, no card is seen, and Capabilities read 0. */
+    /* On a board that lacks bytes: accesses are of words alone, and Capabilities read 0. */
     int is_bare;
+    int has_no_switches; /* no card is seen */
     uint32_t capabilities; /* 40h: all but what is taken out after controller_begin */
     uint8_t version;       /* FEh: 1 is 2.00, 2 is 3.00 */
     uint8_t control, power;
@@ -33,8 +34,8 @@ struct controller {
     uint64_t table_at;
     /* SDMA System Address (00h), and ADMA System Address (58h, 5Ch). */
     uint32_t sdma_address, adma_address, adma_upper;
-    /* blocks that DMA has moved */
-    unsigned long moved;
+    /* blocks that DMA has moved, and such as were read or written through the port by one call */
+    unsigned long moved, read_whole, written_whole;
     /* how often it was told what its registers don't allow at that time */
     unsigned long misuses;
 };

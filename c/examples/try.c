@@ -42,6 +42,84 @@ static int has_registers(enum way way)
     return way != HOST && way != TRANSFERS && way != WHOLE;
 }
 
+/* What a host is told of a command: its response (SD Physical Layer 6.00, section 4.7.4; JESD84-B51, section 6.10.4), and its data. CMD6 and
+   CMD8 are one thing to an SD card and another to an eMMC device, of which it may not be known yet which it is; by a record that somebody
+   else has written it may be either. */
+static int is_known = 1;
+static int is_told_so(const struct kelifandro_command *command)
+{
+    static const uint8_t others[64] = {[1] = KELIFANDRO_R3, [2] = KELIFANDRO_R2, [7] = KELIFANDRO_R1B, [9] = KELIFANDRO_R2,
+                                       [12] = KELIFANDRO_R1B, [38] = KELIFANDRO_R1B, [41] = KELIFANDRO_R3};
+    int index = command->index, reads = command->data == KELIFANDRO_READ;
+    int response = index == 0 ? KELIFANDRO_NO_RESPONSE : others[index] ? others[index] : KELIFANDRO_R1;
+    int length = index == 17 || index == 18 || index == 24 || index == 25 ? 512 : index == 51 ? 8 : 0;
+    if (index == 3 && !card.is_emmc)
+        response = KELIFANDRO_R6;
+    else if (index == 6 && card.is_emmc)
+        response = KELIFANDRO_R1B;
+    else if (index == 6 && reads)
+        length = 64;
+    else if (index == 8 && reads)
+        length = 512;
+    else if (index == 8)
+        response = KELIFANDRO_R7;
+    if (!is_known)
+        return 1;
+    if (command->response != response)
+        return 0;
+    if (length == 0)
+        return command->data == KELIFANDRO_NO_DATA && command->blocks == 0;
+    if (command->data != (index == 24 || index == 25 ? KELIFANDRO_WRITE : KELIFANDRO_READ) || command->block_length != length)
+        return 0;
+    return index != 18 && index != 25 ? command->blocks == 1 : card.count ? command->blocks == card.count : command->blocks > 1;
+}
+
+static int send(void *context, const struct kelifandro_command *command, uint32_t response[4])
+{
+    expect(is_told_so(command), "what is told of a command", command->index);
+    return card_host.send(context, command, response);
+}
+
+static int transfer(void *context, const struct kelifandro_command *command, uint32_t response[4], void *memory, size_t blocks,
+                    struct kelifandro_moved *moved)
+{
+    expect(is_told_so(command) && blocks <= command->blocks, "what is told of a command with blocks", command->index);
+    return transfer_host.transfer(context, command, response, memory, blocks, moved);
+}
+
+static int blind_transfer(void *context, const struct kelifandro_command *command, uint32_t response[4], void *memory, size_t blocks,
+                          struct kelifandro_moved *moved)
+{
+    expect(is_told_so(command) && blocks <= command->blocks, "what is told of a command with blocks", command->index);
+    return whole_host.transfer(context, command, response, memory, blocks, moved);
+}
+
+/* A look is as long as docs/PORTING.md says under "Pace", in whole milliseconds; and so are the pauses between statuses of a card at work,
+   which a test counts. */
+static unsigned long paused;
+
+static int is_busy(void *context, uint32_t microseconds)
+{
+    expect(microseconds >= 32000 && microseconds <= 900000000 && microseconds % 1000 == 0, "how long is looked", microseconds);
+    return card_host.is_busy(context, microseconds);
+}
+
+static void pause_for(void *context, uint32_t microseconds)
+{
+    expect(microseconds > 0 && microseconds <= 100000 && microseconds % 1000 == 0, "how long is paused", microseconds);
+    paused += microseconds;
+    card_host.pause(context, microseconds);
+}
+
+static unsigned long paused_shortly;
+
+static void pause_shortly(void *context, uint32_t microseconds)
+{
+    paused_shortly++;
+    expect(microseconds > 0 && microseconds <= 64000, "how long a driver of registers pauses", microseconds);
+    controller_registers.pause(context, microseconds);
+}
+
 /* How many lines are wired, and whether there is high speed; how many statuses of the card lag. */
 static int lines = 8, high_speed = 1;
 static unsigned late;
@@ -53,10 +131,16 @@ static void begin(int is_emmc, enum way way)
     int one_block = way == ONE_BLOCK || way == BY_PORT;
     host = way == TRANSFERS ? transfer_host : way == WHOLE ? whole_host : card_host;
     host.context = &card;
+    if (!has_registers(way)) {
+        host.send = host.send ? send : 0;
+        host.is_busy = is_busy;
+        host.pause = pause_for;
+        host.transfer = way == WHOLE ? blind_transfer : host.transfer ? transfer : 0;
+    }
     host.lines = (uint8_t)lines;
     host.high_speed = (uint8_t)high_speed;
     controller_begin(&controller, &host, one_block);
-    controller.is_bare = way == BARE;
+    controller.is_bare = controller.has_no_switches = way == BARE;
     controller.capabilities = 1u << 24 | (uint32_t)high_speed << 21 | (uint32_t)(lines == 8) << 18 | 50 << 8;
     registers = way == BY_PORT ? port_registers : way == BARE ? board_registers : way >= DMA_BY_ADDRESS ? dma_registers : controller_registers;
     if (way >= DMA_BY_ADDRESS)
@@ -64,6 +148,8 @@ static void begin(int is_emmc, enum way way)
     if (way == DMA_BY_WIDE_TABLE)
         controller.lent_at = 0x1010000000, controller.table_at = 0x2020000000;
     registers.context = &controller;
+    registers.pause = pause_shortly;
+    paused_shortly = 0;
     if (way == BARE)
         registers.capabilities = controller.capabilities;
     memset(&sd, 0, sizeof sd);
@@ -126,6 +212,8 @@ static unsigned long whole(int is_emmc, enum way way, unsigned long lost, int is
     expect(memcmp(card.user[7], data, 512) == 0 && memcmp(card.user[10], data + 3 * 512, 512) == 0, "their neighbours", lost);
     expect(controller.misuses == 0, "what the registers allow", lost);
     expect((controller.moved > 0) == (way >= DMA_BY_ADDRESS), "blocks that DMA moved", lost);
+    expect((controller.read_whole > 0) == (way == BY_PORT) && (controller.written_whole > 0) == (way == BY_PORT), "blocks by one call", lost);
+    expect((paused_shortly > 0) == has_registers(way), "pauses by registers", lost);
     counts(is_emmc ? 5 : 3, lost >= opened && lost < card.answers && !card.is_look_lost, lost);
     return card.answers;
 }
@@ -177,6 +265,31 @@ static void one_line(int is_emmc)
            (unsigned long)is_emmc);
 }
 
+/* What a board says apart: a slot without switches, words alone; a card's memory isn't lent without a function for it, and a table may
+   be longer than any that is used. */
+static void boards(void)
+{
+    begin(0, SEVERAL_BLOCKS);
+    controller.has_no_switches = 1;
+    expect(kelifandro_open(&sd) == KELIFANDRO_NOT_INSERTED && kelifandro_is_inserted(&sd) == 0, "no switch, and nobody says so", 0);
+    registers.is_there = 1;
+    expect(kelifandro_open(&sd) == KELIFANDRO_DONE && kelifandro_is_inserted(&sd) == 1, "a slot without switches", 0);
+    begin(0, BARE);
+    controller.has_no_switches = 0;
+    registers.is_there = 0;
+    expect(kelifandro_open(&sd) == KELIFANDRO_DONE && controller.misuses == 0, "words alone", 0);
+    begin(0, SEVERAL_BLOCKS);
+    controller.capabilities |= 1u << 19 | 1u << 22;
+    expect(kelifandro_open(&sd) == KELIFANDRO_DONE && kelifandro_write(&sd, KELIFANDRO_USER, 3, 2, data) == KELIFANDRO_DONE, "no memory", 0);
+    expect(controller.moved == 0 && controller.misuses == 0, "no DMA", 0);
+    for (size_t size = 65535; size <= 65536; size++) {
+        begin(0, DMA_BY_TABLE);
+        registers.table_size = size;
+        expect(kelifandro_open(&sd) == KELIFANDRO_DONE && kelifandro_write(&sd, KELIFANDRO_USER, 3, 2, data) == KELIFANDRO_DONE, "a long table", 0);
+        expect(controller.moved == 2, "DMA by a long table", 0);
+    }
+}
+
 static void lost_ways(void)
 {
     begin(0, HOST);
@@ -202,11 +315,33 @@ static void long_requests(enum way way)
     expect(memcmp(card.user[100], many, sizeof many) == 0, "what a long write wrote", way);
     expect(kelifandro_read_long(&sd, KELIFANDRO_USER, 100, MANY, came, &done) == KELIFANDRO_DONE && done == MANY, "long read", way);
     expect(memcmp(came, many, sizeof many) == 0, "what a long read read", way);
+    memset(came, 0, sizeof came);
+    expect(kelifandro_read(&sd, KELIFANDRO_USER, 100, 256, came) == KELIFANDRO_DONE && memcmp(came, many, 256 * 512) == 0, "256 sectors", way);
     unsigned long before = card.answers;
     expect(kelifandro_write_long(&sd, KELIFANDRO_USER, USER_SECTORS - MANY + 1, MANY, many, &done) == KELIFANDRO_OUT_OF_RANGE && done == 0,
            "long and out of range", way);
     expect(kelifandro_write_long(&sd, KELIFANDRO_USER, 0, 0, 0, &done) == KELIFANDRO_COUNT, "long, and no sector", way);
     expect(card.answers == before, "nothing is sent", way);
+}
+
+/* More sectors than one command of a host names, where there is memory for so many. */
+static void longer_requests(enum way way)
+{
+    enum { MOST = 65535, MANY = MOST + 9, FIRST = 2040 };
+    uint8_t(*many)[512] = malloc(sizeof *many * MANY);
+    size_t done = 0;
+    begin(0, way);
+    card.more = 128 * 1024;
+    for (int i = 0; i < USER_SECTORS; i++)
+        card.user[i][3] = (uint8_t)(i * 7), card.user[i][4] = (uint8_t)(i >> 8);
+    expect(kelifandro_open(&sd) == KELIFANDRO_DONE && kelifandro_sectors(&sd, KELIFANDRO_USER) == USER_SECTORS + card.more, "a larger card", way);
+    if (!many)
+        return;
+    expect(kelifandro_read(&sd, KELIFANDRO_USER, FIRST, MOST + 1, many) == KELIFANDRO_COUNT, "more than one command names", way);
+    expect(kelifandro_read_long(&sd, KELIFANDRO_USER, FIRST, MANY, many, &done) == KELIFANDRO_DONE && done == MANY, "longer read", way);
+    for (size_t i = 0; i < MANY; i++)
+        expect(memcmp(many[i], card.user[(FIRST + i) % USER_SECTORS], 512) == 0, "what a longer read read", i);
+    free(many);
 }
 
 static int send_nothing(void *context, const struct kelifandro_command *command, uint32_t response[4])
@@ -301,9 +436,10 @@ static void shown(enum way way)
     static uint8_t ext_csd[512];
     begin(0, way);
     sd.ext_csd = ext_csd;
+    memset(ext_csd, 1, sizeof ext_csd);
     expect(kelifandro_open(&sd) == KELIFANDRO_DONE && memcmp(sd.scr, scr, 8) == 0, "the SCR", way);
     expect(memcmp(sd.card.cid, cid, 15) == 0 && memcmp(sd.card.csd, csd, 15) == 0, "CID and CSD", way);
-    expect(ext_csd[192] == 0, "no EXT_CSD", way);
+    expect(ext_csd[0] == 0 && memcmp(ext_csd, ext_csd + 1, sizeof ext_csd - 1) == 0, "no EXT_CSD", way);
     card.state = 0;
     expect(kelifandro_read(&sd, KELIFANDRO_USER, 0, 1, back) == KELIFANDRO_DONE && sd.was_reset == 1, "opened anew", way);
     expect(kelifandro_read(&sd, KELIFANDRO_USER, 0, 1, back) == KELIFANDRO_DONE && sd.was_reset == 1, "and it says so still", way);
@@ -431,16 +567,20 @@ int main(int words, char **word)
     late = 2;
     for (int is_emmc = 0; is_emmc < 2; is_emmc++)
         each_in_turn(is_emmc, HOST), each_in_turn(is_emmc, SEVERAL_BLOCKS);
+    expect(paused > 0, "pauses between statuses", paused);
     late = 0;
     for (int way = HOST; way <= DMA_BY_WIDE_TABLE; way++)
         refusals(way), long_requests(way), switches(way), shown(way);
+    longer_requests(HOST), longer_requests(WHOLE);
     slow_and_gone();
     slot();
     within_each_other();
     one_line(0), one_line(1);
+    boards();
     lost_ways();
     clocks();
     beyond_reach();
+    is_known = 0;
     junk(100000 / EVERY);
     printf("junk for a card: %d calls\n%lu wrong\n", 100000 / EVERY, wrong);
     return wrong != 0;

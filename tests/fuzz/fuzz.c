@@ -221,7 +221,7 @@ static void begin(void)
     if (way == BY_TRANSFERS || way == BY_TRANSFERS_ALONE)
         host.transfer = transfer;
     controller_begin(&controller, &host, way == BY_ONE_BLOCK || way == BY_PORT);
-    controller.is_bare = way == BY_WORDS;
+    controller.is_bare = controller.has_no_switches = way == BY_WORDS;
     registers = way == BY_PORT ? port_registers : way == BY_WORDS ? board_registers : way == BY_DMA ? dma_registers : controller_registers;
     if (way == BY_DMA)
         begin_dma(limits / 8 % 4);

@@ -427,7 +427,7 @@ static void begin_way(enum way way)
     if (way == BY_TRANSFERS || way == BY_TRANSFERS_ALONE)
         host.transfer = transfer;
     controller_begin(&controller, &host, way == BY_ONE_BLOCK || way == BY_PORT);
-    controller.is_bare = way == BY_WORDS;
+    controller.is_bare = controller.has_no_switches = way == BY_WORDS;
     controller.version = (uint8_t)(one_in(4) ? any() % 2 : one_in(8) ? any() : 2);
     draw_limits();
     registers = way == BY_PORT ? port_registers : way == BY_WORDS ? board_registers : controller_registers;
