@@ -241,7 +241,6 @@ int64_t kelifandro_put(int32_t stream, const uint8_t *bytes, uint64_t n)
     const struct kelifandro_registers *registers = kelifandro->registers;
     struct kelifandro_call *call = &kelifandro->call;
     call->came = 0;
-    call->next = NOTHING;
     if (IS_BY_HOST(kelifandro))
         tell_host(call, kelifandro->host, bytes, n);
     else if (n == BLOCK)

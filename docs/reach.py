@@ -12,6 +12,10 @@ HEADLINE = [("mmc_history", name) for name in ("submit", "cancel", "turn", "clos
 RELATION = [("mmc_bus", "Bus")]
 # The calls of one client without a queue.
 DIRECT = [("mmc_direct", name) for name in ("read", "write", "erase")]
+# The calls of C, with their history.
+C = [("kelifandro", name) for name in ("open", "serve", "close")]
+# What is said of the card and of its host: all else stands above them.
+BELOW = {"mmc_frame", "mmc_regs", "mmc_ext_csd", "mmc_card", "mmc_bus", "mmc_host"}
 
 
 @cache
@@ -48,7 +52,7 @@ def clauses(crate, function):
         found = re.search(rf"^pub trait {function}\b(.*?)^\}}$|^ *pub (?:\w+ )*fn {function}\b(.*?)^ *\{{$", text, re.M | re.S)
         found = found and (None, found[1] or found[2])
         if found and re.search(r"\b(?:requires|ensures)\b", found[1]):
-            return " ".join(re.findall(r"(?:requires|ensures)\b(?:[^{}]|\{[^{}]*\})*", found[1])), path
+            return " ".join(re.findall(r"(?:requires|ensures)\b(?:[^{}]|\{(?:[^{}]|\{[^{}]*\})*\})*", found[1])), path
     raise SystemExit(f"docs/reach: {crate} has no public {function} with a contract")
 
 
@@ -68,7 +72,10 @@ def reached(calls):
     work, found = [], set()
     for crate, function in calls:
         text, path = clauses(crate, function)
-        work += named(text, None, imports(path))
+        first = [*named(text, None, imports(path))]
+        if not first:
+            raise SystemExit(f"docs/reach: the clauses of {crate} {function} name no definition")
+        work += first
     while work:
         crate, file, name = one = work.pop()
         if one not in found:

@@ -321,10 +321,16 @@ static uint32_t read_bytes(struct controller *controller, unsigned offset)
     }
 }
 
+/* An access has 1 or 4 bytes, in one word; of a bare controller a whole one. */
+static int is_access(const struct controller *controller, unsigned offset, unsigned size)
+{
+    return size == 4 ? offset % 4 == 0 : size == 1 && !controller->is_bare;
+}
+
 static uint32_t read(void *context, unsigned offset, unsigned size)
 {
     struct controller *controller = context;
-    controller->misuses += controller->is_bare && (size != 4 || offset % 4);
+    controller->misuses += !is_access(controller, offset, size);
     if (controller->is_bare && (offset == 0x24 || offset == 0x28 || offset == 0xfc || offset == 0x40))
         return read_bytes(controller, offset);
     switch (offset) {
@@ -397,7 +403,7 @@ static void write(void *context, unsigned offset, unsigned size, uint32_t value)
 {
     struct controller *controller = context;
     controller->misuses += (unsigned long)is_misuse(controller, offset, value);
-    controller->misuses += controller->is_bare && (size != 4 || offset % 4);
+    controller->misuses += !is_access(controller, offset, size);
     if (controller->is_bare && offset == 0x28)
         controller->power = (uint8_t)(value >> 8);
     if (controller->is_bare && offset == 0x2c && value >> 24) {

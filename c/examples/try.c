@@ -199,6 +199,7 @@ static unsigned long whole(int is_emmc, enum way way, unsigned long lost, int is
     expect(memcmp(card.user[7], data, RUN * 512) == 0, "what was written", lost);
     expect(kelifandro_read(&sd, KELIFANDRO_USER, 7, RUN, back) == KELIFANDRO_DONE, "read", lost);
     expect(memcmp(back, data, RUN * 512) == 0, "what was read", lost);
+    sd.card.unused[0] = sd.card.unused[1] = 0x5a;
     if (is_emmc) {
         expect(kelifandro_write(&sd, KELIFANDRO_BOOT2, 3, 2, data) == KELIFANDRO_DONE, "write to boot 2", lost);
         expect(memcmp(card.boot[1][3], data, 1024) == 0, "what was written to boot 2", lost);
@@ -214,6 +215,7 @@ static unsigned long whole(int is_emmc, enum way way, unsigned long lost, int is
     expect((controller.moved > 0) == (way >= DMA_BY_ADDRESS), "blocks that DMA moved", lost);
     expect((controller.read_whole > 0) == (way == BY_PORT) && (controller.written_whole > 0) == (way == BY_PORT), "blocks by one call", lost);
     expect((paused_shortly > 0) == has_registers(way), "pauses by registers", lost);
+    expect(!sd.card.unused[0] && !sd.card.unused[1], "bytes that are 0 after each call", lost);
     counts(is_emmc ? 5 : 3, lost >= opened && lost < card.answers && !card.is_look_lost, lost);
     return card.answers;
 }

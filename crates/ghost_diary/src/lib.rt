@@ -64,6 +64,13 @@ impl<E> Diary<E> {
         Diary { of: PhantomData }
     }
 
+    /// The same again.
+    pub fn again(&self) -> Diary<E>
+        ensures { result.past ≡ self.now.past }
+    {
+        Diary { of: PhantomData }
+    }
+
     /// One entry more.
     #[inline(always)]
     pub fn then<N: Noted<E>>(&self, _note: &N) -> Diary<E>

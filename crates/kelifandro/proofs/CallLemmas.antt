@@ -1,7 +1,7 @@
 -- What C is told of a request, and what was promised of it.
-use Rattle.std.proofs.Common.{◌∙◌, ◌≡◌, ap, refl, subst, sym}
+use Rattle.std.proofs.Common.{◌&&◌, ◌∙◌, ◌≡◌, ap, refl, subst, sym}
 use Rattle.std.proofs.lemmas.Bool.{false≢true}
-use Rattle.std.specs.Prelude.{[], Bool, Err, IfErr, IfOk, IfSome, IsOk, List, None, Ok, Option, Result, Some, false, nat_lt, negsuc, pos, true, ℕ, ℤ}
+use Rattle.std.specs.Prelude.{Bool, Err, IfErr, IfOk, IfSome, IsOk, List, None, Ok, Option, Result, Some, false, nat_lt, negsuc, pos, true, ℕ, ℤ}
 use Rattle.mmc_bus.specs.declared.cause.Cause.{Cause}
 use Rattle.mmc_bus.specs.declared.cause.Cause.TheVariants.{Answer, Busy, Data, Recovery, Status}
 use Rattle.mmc_direct.specs.Noted.{IsCounted, Notes, lines_in}
@@ -17,14 +17,15 @@ use Rattle.mmc_switch.specs.declared.stands.Stands.{Stands}
 use Rattle.mmc_host.specs.HostStates.{resting}
 use Rattle.mmc_host.specs.Hosts.{HostView}
 use Rattle.mmc_host.specs.declared.told.HostState.{HostState}
-use Rattle.mmc_record.specs.Note.{IsNoteOf}
+use Rattle.c_host.specs.declared.given.WayRecord.{WayRecord}
+use Rattle.mmc_record.specs.Note.{IsNoteOf, is_note}
 use Rattle.mmc_record.specs.declared.record.CardRecord.{CardRecord}
 use Rattle.mmc_recovery.specs.declared.healed.Healed.{Healed}
 use Rattle.mmc_story.specs.Entry.{Entry}
 use Rattle.mmc_story.specs.Story.{IsTrueOf, Story, host_with}
 use Rattle.kelifandro.specs.Answers.{answer_number, cause_number, refused_number}
 use Rattle.kelifandro.specs.Longs.{begins_by}
-use Rattle.kelifandro.specs.Calls.{IfNoted, IsAsNoted, TellsCounts, TellsWhy, host_of, is_attempted}
+use Rattle.kelifandro.specs.Calls.{IfNoted, IsAsNoted, TellsCounts, TellsWhy, host_of, is_attempted, is_open}
 
 -- a number of a refusal, and of nothing else
 abbrev is_refusal : ℤ → Bool
@@ -76,7 +77,7 @@ tells_why answer way (Some why) (Ok did) number told other fault comes judged =
 tells_why answer way (Some why) (Err not) number told other fault comes judged =
     (λ done. fault (sym other ∙ done), λ host. absurd (false≢true (comes host)))
 
-refused_unmade : (why : Refused) → is_attempted (refused_number why) ≡ false
+pub refused_unmade : (why : Refused) → is_attempted (refused_number why) ≡ false
 refused_unmade NoSuchPartition = refl
 refused_unmade OutOfRange = refl
 refused_unmade Empty = refl
@@ -140,18 +141,18 @@ pub as_noted : (note : CardRecord) (stands : Stands) → IsAsNoted stands note �
 as_noted note stands noted Holds holds other is = subst Holds (noted other is) holds
 
 -- what holds of the host that a call goes on with holds of the story's, where the card was noted
-pub holds_as_noted : (story : Story) (note : CardRecord) (stands : Stands) (past : List Entry) (state : HostState) (own limits : Lines)
-    → IsAsNoted stands note → past ≡ [] → state ≡ resting (lines_in stands)
+pub holds_as_noted : (story : Story) (note : CardRecord) (stands : Stands) (did past : List Entry) (state : HostState)
+    (own limits : Lines) → IsAsNoted stands note → past ≡ did → state ≡ resting (lines_in stands)
     → ((host_with (story.outcome past) state own).is_kept ≡ true → limits ≡ own)
     → (Holds : Stands → HostView → Type 0) → Holds stands (host_with (story.outcome past) state own)
-    → IsTrueOf story [] → IfNoted note (λ s. Holds s (host_of story s limits))
-holds_as_noted story note stands past state own limits noted none rests within Holds holds so how is =
-    let able : own ≡ limits = sym (within (ap (λ (p : List Entry). (story.outcome p).conformed) none ∙ so)) in
-    let goes : host_with (story.outcome past) state own ≡ host_of story stands limits =
-    ap (λ (p : List Entry). host_with (story.outcome p) state own) none
-    ∙ ap (λ (s : HostState). host_with (story.outcome []) s own) rests
-    ∙ ap (λ (l : Lines). host_with (story.outcome []) (resting (lines_in stands)) l) able in
-    subst (λ (s : Stands). Holds s (host_of story s limits)) (noted how is) (subst (λ (h : HostView). Holds stands h) goes holds)
+    → IsTrueOf story did → IfNoted note (λ s. Holds s (host_of story did s limits))
+holds_as_noted story note stands did past state own limits noted same rests within Holds holds so how is =
+    let able : own ≡ limits = sym (within (ap (λ (p : List Entry). (story.outcome p).conformed) same ∙ so)) in
+    let goes : host_with (story.outcome past) state own ≡ host_of story did stands limits =
+    ap (λ (p : List Entry). host_with (story.outcome p) state own) same
+    ∙ ap (λ (s : HostState). host_with (story.outcome did) s own) rests
+    ∙ ap (λ (l : Lines). host_with (story.outcome did) (resting (lines_in stands)) l) able in
+    subst (λ (s : Stands). Holds s (host_of story did s limits)) (noted how is) (subst (λ (h : HostView). Holds stands h) goes holds)
 
 -- of a request that is refused nothing has changed, and the record notes the card as it was noted
 pub unchanged_by : (P Q R : Type 0) (answer : Result Unit NotDone) → IfRefused answer (P × Q × R) → IfRefused answer Q
@@ -179,3 +180,35 @@ told_why (Some why) number Told is told = told why cc
 pub told_none : (refusal : Option Refused) (Told : Refused → Type 0) → Ok tt ≡ begins_by refusal → IfSome refusal Told
 told_none None Told is = tt
 told_none (Some why) Told is = absurd (cc)
+
+-- what follows of what holds where a call came to no host, and where it was refused
+pub where_none : {A P Q : Type 0} (called : Result A ℤ) → (P → Q) → IfErr called (λ n. P) → IfErr called (λ n. Q)
+where_none (Err number) then holds = then holds
+where_none (Ok came) then holds = tt
+
+refused_then : {P Q : Type 0} (answer : Result Unit NotDone) → (P → Q) → IfRefused answer P → IfRefused answer Q
+refused_then (Ok done) then holds = tt
+refused_then (Err (RefusedFor why)) then holds = then holds
+refused_then (Err (Failed cause)) then holds = tt
+
+pub where_refused : {A P Q : Type 0} (answer : A → Result Unit NotDone) (called : Result A ℤ) → (P → Q)
+    → IfOk called (λ came. IfRefused (answer came) P) → IfOk called (λ came. IfRefused (answer came) Q)
+where_refused answer (Err number) then holds = tt
+where_refused answer (Ok came) then holds = refused_then (answer came) then holds
+
+noted_by : (a b : Bool) → (a && b) ≡ true → a ≡ true
+noted_by true b is = refl
+noted_by false b is = absurd (false≢true is)
+
+opened_by : (b : Bool) → (b ≡ false → ⊥) → b ≡ true
+opened_by true not = refl
+opened_by false not = absurd (not refl)
+
+ok_or_err : {A : Type 0} {came : A} {other : ℤ} → Ok came ≡ Err other → ⊥
+ok_or_err is = absurd (cc)
+
+-- a call that has come to a host is for a card that is noted
+pub open_by : {A : Type 0} (way : WayRecord) (note : CardRecord) (number : ℤ) (called : Result A ℤ)
+    → (is_open way note ≡ false → called ≡ Err number) → IfOk called (λ came. is_note note ≡ true)
+open_by way note number (Err other) not = tt
+open_by way note number (Ok came) not = noted_by (is_note note) _ (opened_by (is_open way note) (λ is. absurd (ok_or_err (not is))))

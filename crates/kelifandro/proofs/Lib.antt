@@ -1,2 +1,6 @@
 pub mod CallLemmas
+pub mod CardLemmas
+pub mod GoesOnLemmas
+pub mod HistoryLemmas
+pub mod OpeningLemmas
 pub mod RequestLemmas

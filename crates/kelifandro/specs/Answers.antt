@@ -1,5 +1,5 @@
 -- The numbers that C knows of answers (`enum kelifandro_result`).
-use Rattle.std.specs.Prelude.{Err, Ok, Result, negsuc, pos, suc, zero, ℕ, ℤ}
+use Rattle.std.specs.Prelude.{◌&&◌, Bool, Err, Ok, Result, false, nat_lt, negsuc, pos, suc, zero, ℕ, ℤ}
 use Rattle.mmc_bus.specs.declared.cause.Cause.{Cause}
 use Rattle.mmc_bus.specs.declared.cause.Cause.TheVariants.{Answer, Busy, Data, Recovery, Status}
 use Rattle.mmc_direct.specs.declared.refused.NotDone.{NotDone}
@@ -57,3 +57,8 @@ abbrev pub start_number : StartFault → ℤ
 start_number NoVoltage = minus 22
 start_number NoBaseClock = minus 23
 start_number NoCard = minus 24
+
+-- the number of why a controller isn't ready
+abbrev pub is_unready : ℤ → Bool
+is_unready (pos n) = false
+is_unready (negsuc n) = nat_lt 20 n && nat_lt n 24

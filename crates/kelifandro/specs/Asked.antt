@@ -1,5 +1,5 @@
 -- A request of C: what it asks for, and what comes of it.
-use Rattle.std.specs.Prelude.{◌==◌, ◌≡◌, List, false, if◌then◌else◌, length, true, ℕ}
+use Rattle.std.specs.Prelude.{◌<◌, ◌==◌, ◌≡◌, [], List, false, if◌then◌else◌, length, slice_index_or, true, ℕ}
 use Rattle.mmc_card.specs.Sectors.{AreRead, Change, Sector, Sets}
 use Rattle.mmc_card.specs.declared.part.Part.{Part}
 use Rattle.mmc_direct.specs.Asked.{asked_at}
@@ -51,3 +51,7 @@ pub record Leaves (old new : CRequest) : Type 0 where
 -- a read that is done has what the sectors may hold
 abbrev pub HasBlocks : Sets → CRequest → Type 0
 HasBlocks sets request = is_read request.kind ≡ true → AreRead sets request.part request.start request.blocks.now
+
+-- each of these has 512 bytes
+abbrev pub AreWhole : List Sector → Type 0
+AreWhole sectors = (i : ℕ) → i < length sectors → length (slice_index_or sectors i []) ≡ 512

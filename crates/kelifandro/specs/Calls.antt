@@ -1,6 +1,7 @@
 -- What a call begins with, and what becomes of it.
-use Rattle.std.specs.Prelude.{◌&&◌, ◌==◌, ◌≡◌, [], Bool, None, Option, Result, Some, nat_lt, negsuc, pos, true, ℕ, ℤ}
+use Rattle.std.specs.Prelude.{◌&&◌, ◌==◌, ◌≡◌, Bool, List, None, Option, Result, Some, nat_lt, negsuc, pos, true, ℕ, ℤ}
 use Rattle.mmc_direct.specs.Noted.{IsCounted, lines_in}
+use Rattle.mmc_card.specs.Limits.{fewer}
 use Rattle.mmc_card.specs.declared.exchange.Lines.{Lines}
 use Rattle.mmc_card.specs.declared.part.Part.{Part}
 use Rattle.mmc_direct.specs.declared.refused.NotDone.{NotDone}
@@ -12,8 +13,9 @@ use Rattle.mmc_record.specs.Note.{IsNoteOf, is_note}
 use Rattle.mmc_record.specs.Numbers.{kind_of, part_of}
 use Rattle.mmc_record.specs.declared.record.CardRecord.{CardRecord}
 use Rattle.mmc_recovery.specs.declared.healed.Healed.{Healed}
+use Rattle.mmc_story.specs.Entry.{Entry}
 use Rattle.mmc_story.specs.Story.{Story, host_with}
-use Rattle.c_host.specs.Given.{kinds_by}
+use Rattle.c_host.specs.Given.{kinds_by, lines_by, most_by}
 use Rattle.c_host.specs.Kinds.{serves}
 use Rattle.c_host.specs.declared.given.WayRecord.{WayRecord}
 use Rattle.kelifandro.specs.Answers.{answer_number, refused_number}
@@ -38,9 +40,17 @@ IfOpen way note Holds = is_open way note ≡ true → IfNoted note Holds
 abbrev pub IfMeant : ℕ → (Part → Type 0) → Type 0
 IfMeant number Holds = (part : Part) → part_of number ≡ Some part → Holds part
 
--- the host that a call goes on with: the card of the story, between two commands, on the lines that are noted
-abbrev pub host_of : Story → Stands → Lines → HostView
-host_of story stands limits = host_with (story.outcome []) (resting (lines_in stands)) limits
+-- what a host of such a way can, that says this of it
+abbrev pub limits_within : WayRecord → Lines → Lines
+limits_within way limits = record limits { width = fewer limits.width (most_by way) }
+
+-- what a host of C's functions can
+abbrev pub limits_by : WayRecord → Lines
+limits_by way = limits_within way (lines_by way.lines way.high_speed)
+
+-- the host that a call goes on with: the card of the story after what was done, between two commands, on the lines that are noted
+abbrev pub host_of : Story → List Entry → Stands → Lines → HostView
+host_of story did stands limits = host_with (story.outcome did) (resting (lines_in stands)) limits
 
 -- A request that may not be made is never told as done. By functions it is told by the number of why, and no other request is told as
 -- refused; by registers the controller may not be ready, which comes first.

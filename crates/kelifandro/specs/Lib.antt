@@ -2,4 +2,5 @@ pub mod Answers
 pub mod Asked
 pub mod AskedLaws
 pub mod Calls
+pub mod History
 pub mod Longs

@@ -1,7 +1,7 @@
 // The numbers that C knows of answers (`enum kelifandro_result`).
-ghost use Rattle.std.specs.Prelude.{◌≡◌, false, pos};
+ghost use Rattle.std.specs.Prelude.{◌≡◌, false, pos, true};
 ghost use Rattle.kelifandro.specs.Calls.{is_attempted};
-ghost use Rattle.kelifandro.specs.Answers.{answer_number, cause_number, refused_number, start_number, unidentified_number};
+ghost use Rattle.kelifandro.specs.Answers.{answer_number, cause_number, is_unready, refused_number, start_number, unidentified_number};
 ghost use Rattle.kelifandro.specs.Answers.{unopened_number};
 
 use mmc_bus::Cause;
@@ -79,6 +79,7 @@ fn unidentified_number(fault: IdentFault) -> i32
 pub fn unopened_number(fault: InitializationFault) -> i32
     ensures number { result ≡ unopened_number fault }
     ensures not_done { result ≡ pos 0 → ⊥ }
+    ensures ready { is_unready result ≡ false }
 {
     match fault {
         InitializationFault::Identification(fault) => unidentified_number(fault),
@@ -89,7 +90,8 @@ pub fn unopened_number(fault: InitializationFault) -> i32
 
 /// Why a controller isn't ready.
 pub fn start_number(fault: StartFault) -> i32
-    ensures { result ≡ start_number fault }
+    ensures number { result ≡ start_number fault }
+    ensures unready { is_unready result ≡ true }
 {
     match fault {
         StartFault::NoVoltage => -22,

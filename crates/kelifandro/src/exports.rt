@@ -23,6 +23,7 @@ use crate::requests::serve_told;
 use c_host::WayRecord;
 use mmc_record::CardRecord;
 use mmc_recovery::Healed;
+use mmc_story::Diary;
 use std::marker::Brand;
 
 /// Opens a card.
@@ -36,7 +37,7 @@ pub extern "C" fn kelifandro_open_by(
     ensures not_open { (result ≡ pos 0 → ⊥) → card.new.state ≡ 0 }
     ensures opened { result ≡ pos 0 → is_note card.new ≡ true }
 {
-    open_by::<Brand>(way, card, healed).0
+    open_by::<Brand>(way, card, healed, &mut Diary::new())
 }
 
 /// Serves a request: a read, a write, an erase or a trim.
@@ -58,7 +59,7 @@ pub extern "C" fn kelifandro_serve_by(
     ensures kept { is_read (kind_with request.now.kind) ≡ false → blocks.new ≡ blocks.old }
 {
     match request.asked() {
-        Some(asked) => serve_told(way, card, healed, &asked, blocks),
+        Some(asked) => serve_told::<Brand>(way, card, healed, &asked, blocks, &mut Diary::new()),
         None => NO_PARTITION,
     }
 }
@@ -84,7 +85,15 @@ pub extern "C" fn kelifandro_serve_long_by(
     ensures kept { is_read (kind_with request.now.kind) ≡ false → blocks.new ≡ blocks.old }
 {
     match request.asked() {
-        Some(asked) => serve_long(way, card, healed, &asked, blocks, done),
+        Some(asked) => serve_long::<Brand>(
+            way,
+            card,
+            healed,
+            &asked,
+            blocks,
+            done,
+            &mut Diary::new(),
+        ),
         None => {
             *done = 0;
             NO_PARTITION

@@ -14,6 +14,7 @@ use mmc_direct::Asked;
 use mmc_record::CardRecord;
 use mmc_recovery::Healed;
 use mmc_requests::sectors_refusal;
+use mmc_story::{Diary, HasStory};
 
 // The most sectors that a part names: as many as a table has lines for, of 12 bytes and 64 sectors each.
 fn longest(way: &WayRecord) -> u32
@@ -29,13 +30,14 @@ fn longest(way: &WayRecord) -> u32
 }
 
 // Serves the parts, one after the other, until one isn't done. Tells how many sectors are done before that one.
-fn serve_parts(
+fn serve_parts<S: HasStory>(
     way: &WayRecord,
     card: &mut CardRecord,
     healed: &mut Healed,
     asked: &Asked,
     blocks: &mut [[u8; 512]],
     done: &mut u64,
+    did: &mut Diary,
 ) -> i32
     requires { done.old ≡ 0 }
     ensures within { done.new ≤ length blocks.old }
@@ -55,7 +57,7 @@ fn serve_parts(
             count: u64::from(some),
         };
         let memory = &mut blocks[first..first + some as usize];
-        let number = serve_told(way, card, healed, &part, memory);
+        let number = serve_told::<S>(way, card, healed, &part, memory, did);
         if number != DONE {
             return number;
         }
@@ -93,13 +95,14 @@ fn may_begin(way: &WayRecord, card: &CardRecord, asked: &Asked) -> Result<(), i3
 
 /// Serves a long request, of which nothing is done where its sectors don't all lie in the partition. How many they are the memory tells,
 /// and `done` how many are done.
-pub fn serve_long(
+pub fn serve_long<S: HasStory>(
     way: &WayRecord,
     card: &mut CardRecord,
     healed: &mut Healed,
     asked: &Asked,
     blocks: &mut [[u8; 512]],
     done: &mut u64,
+    did: &mut Diary,
 ) -> i32
     ensures not_open { is_open way.now card.old ≡ false → (result ≡ minus 1) × (done.new ≡ 0) }
     ensures refused { IfOpen way.now card.old (λ stands. IfSome (long_refusal (info_of stands) (whole_of asked.now blocks.old)) (λ why.
@@ -118,6 +121,6 @@ pub fn serve_long(
     };
     match may_begin(way, card, &whole) {
         Err(number) => number,
-        Ok(()) => serve_parts(way, card, healed, asked, blocks, done),
+        Ok(()) => serve_parts::<S>(way, card, healed, asked, blocks, done, did),
     }
 }

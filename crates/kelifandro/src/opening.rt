@@ -1,25 +1,31 @@
-// Opening a card for C, over the host that C has given, with a diary. What is promised of the card holds for every story that is true of
-// the diary, whose bus is handed out with the number that C is told.
-ghost use Rattle.std.specs.Prelude.{◌≡◌, ◌≤◌, ◌+◌, IfNone, IfSome, [], false, pos, true};
+// Opening a card for C, over the host that C has given, with a diary of what its host did, in earlier calls too. What is promised of the
+// card holds for every story that is true of the diary.
+ghost use Rattle.std.specs.Prelude.{◌≡◌, ◌≤◌, ◌+◌, false, pos, true};
+ghost use Rattle.mmc_bus.specs.Work.{Anything, Moves};
 ghost use Rattle.mmc_card.specs.Profile.{InProfile};
 ghost use Rattle.mmc_recovery.specs.Healed.{none_met};
 ghost use Rattle.mmc_direct.specs.Opened.{IsReadyAs};
-ghost use Rattle.mmc_record.specs.Note.{is_note};
-ghost use Rattle.kelifandro.specs.Answers.{minus};
+ghost use Rattle.mmc_record.specs.Note.{IsNoteOf, is_note};
+ghost use Rattle.mmc_switch.specs.declared.stands.Stands.{Stands};
+ghost use Rattle.mmc_story.specs.Story.{IsTrueOf};
+ghost use Rattle.kelifandro.specs.Answers.{is_unready, minus};
+ghost use Rattle.kelifandro.specs.History.Call.{Opened};
+ghost use Rattle.kelifandro.specs.History.{GoesOn, HasStayed, IsOpened};
 
-use crate::answers::{DONE, NO_CARD, UNSUPPORTED, start_number, unopened_number};
-use crate::calls::CHost;
-use c_host::{Way, WayRecord, given_by, most_by};
+use crate::answers::{DONE, NO_CARD, UNSUPPORTED, unopened_number};
+use crate::calls::begin;
+use c_host::{WayRecord, given_by};
 use mmc_bus::Bus;
 use mmc_direct::{open, stands_by};
 use mmc_host::HostBus;
 use mmc_record::CardRecord;
 use mmc_recovery::Healed;
-use mmc_story::{HasStory, StoryHost};
+use mmc_story::{Diary, HasStory, StoryHost};
 
 // Whether a card is noted; the record of none is that of no card.
 fn is_noted(card: &mut CardRecord) -> bool
     ensures noted { result ≡ is_note card.old }
+    ensures is { (stands : Stands) → IsNoteOf stands card.old → result ≡ true }
     ensures same { result ≡ true → card.new ≡ card.old }
     ensures none { result ≡ false → card.new ≡ record card.old { state = 0 } }
 {
@@ -30,61 +36,83 @@ fn is_noted(card: &mut CardRecord) -> bool
     is_noted
 }
 
+// Opens the card of a bus, and tells the number that C is told.
+fn open_over<B: Bus>(bus: &mut B, card: &mut CardRecord, healed: &mut Healed) -> i32
+    ensures not_open { (result ≡ pos 0 → ⊥) → card.new.state ≡ 0 }
+    ensures noted { result ≡ pos 0 → is_note card.new ≡ true }
+    ensures healed { healed.new ≡ none_met }
+    ensures no_card { result ≡ minus 20 → card.new ≡ record card.old { state = 0 } }
+    ensures ready { is_unready result ≡ false }
+    ensures moves { Moves (λ old new. result ≡ pos 0 → IsReadyAs card.new new) Anything (B.view bus.old) (B.view bus.new) }
+    ensures refused { (B.view bus.new).is_kept ≡ true → InProfile (B.view bus.old).card.made → (result ≡ pos 0 → ⊥)
+        → (B.view bus.old).faults + 3 ≤ (B.view bus.new).faults }
+{
+    match open(bus, card, healed) {
+        Ok(()) if is_noted(card) => DONE,
+        Ok(()) => UNSUPPORTED,
+        Err(fault) => unopened_number(fault),
+    }
+}
+
 // Opens a card with power.
 #[inline(never)]
 fn open_once<S: HasStory>(
     way: &WayRecord,
     card: &mut CardRecord,
     healed: &mut Healed,
-) -> (i32, Option<HostBus<CHost<S>>>)
-    ensures not_open { (result.0 ≡ pos 0 → ⊥) → card.new.state ≡ 0 }
-    ensures noted { result.0 ≡ pos 0 → is_note card.new ≡ true }
+    did: &mut Diary,
+) -> i32
+    ensures not_open { (result ≡ pos 0 → ⊥) → card.new.state ≡ 0 }
+    ensures noted { result ≡ pos 0 → is_note card.new ≡ true }
     ensures healed { healed.new ≡ none_met }
-    ensures no_host { IfNone result.1 (card.new ≡ record card.old { state = 0 }) }
-    ensures no_card { result.0 ≡ minus 20 → card.new ≡ record card.old { state = 0 } }
-    ensures opened { IfSome result.1 (λ bus. (⟦<HostBus<CHost<S>> as Bus>⟧.view bus).is_kept ≡ true → result.0 ≡ pos 0
-        → IsReadyAs card.new (⟦<HostBus<CHost<S>> as Bus>⟧.view bus)) }
-    ensures refused { IfSome result.1 (λ bus. (⟦<HostBus<CHost<S>> as Bus>⟧.view bus).is_kept ≡ true
-        → InProfile (S.story.outcome []).card.made → (result.0 ≡ pos 0 → ⊥)
-        → (S.story.outcome []).faults + 3 ≤ (⟦<HostBus<CHost<S>> as Bus>⟧.view bus).faults) }
+    ensures no_host { is_unready result ≡ true → card.new ≡ record card.old { state = 0 } }
+    ensures no_card { result ≡ minus 20 → card.new ≡ record card.old { state = 0 } }
+    ensures stays { IsTrueOf S.story did.new.past → HasStayed (S.story.outcome did.old.past) (S.story.outcome did.new.past) }
+    ensures opened { IsTrueOf S.story did.new.past → result ≡ pos 0 → IsOpened way.now (S.story.outcome did.new.past) card.new }
+    ensures refused { IsTrueOf S.story did.new.past → InProfile (S.story.outcome did.old.past).card.made → (result ≡ pos 0 → ⊥)
+        → is_unready result ≡ false → (S.story.outcome did.old.past).faults + 3 ≤ (S.story.outcome did.new.past).faults }
 {
-    card.state = 0;
-    *healed = Healed::new();
-    match Way::begin(given_by(way)) {
+    match begin::<S>(way, did) {
         Ok(host) => {
-            let mut bus = HostBus::new(StoryHost::new(host).within(most_by(way)));
-            match open(&mut bus, card, healed) {
-                Ok(()) if is_noted(card) => (DONE, Some(bus)),
-                Ok(()) => (UNSUPPORTED, Some(bus)),
-                Err(fault) => (unopened_number(fault), Some(bus)),
-            }
+            let mut bus = HostBus::new(host);
+            let number = open_over(&mut bus, card, healed);
+            let (_, does) = StoryHost::ended(bus);
+            *did = does;
+            number
         }
-        Err(fault) => (start_number(fault), None),
+        Err(number) => {
+            card.state = 0;
+            *healed = Healed::new();
+            number
+        }
     }
 }
 
-/// Opens a card. Where its power can be switched it is on, and a card that doesn't answer has been without it once.
+/// Opens a card. Where its power can be switched it is on, and a card that doesn't answer has been without it once: what the host did before
+/// that and after it is one diary, in which a story has the loss of power as a fault of the next exchange.
 pub fn open_by<S: HasStory>(
     way: &WayRecord,
     card: &mut CardRecord,
     healed: &mut Healed,
-) -> (i32, Option<HostBus<CHost<S>>>)
-    ensures not_open { (result.0 ≡ pos 0 → ⊥) → card.new.state ≡ 0 }
-    ensures noted { result.0 ≡ pos 0 → is_note card.new ≡ true }
+    did: &mut Diary,
+) -> i32
+    ensures not_open { (result ≡ pos 0 → ⊥) → card.new.state ≡ 0 }
+    ensures noted { result ≡ pos 0 → is_note card.new ≡ true }
     ensures healed { healed.new ≡ none_met }
-    ensures no_host { IfNone result.1 (card.new ≡ record card.old { state = 0 }) }
-    ensures opened { IfSome result.1 (λ bus. (⟦<HostBus<CHost<S>> as Bus>⟧.view bus).is_kept ≡ true → result.0 ≡ pos 0
-        → IsReadyAs card.new (⟦<HostBus<CHost<S>> as Bus>⟧.view bus)) }
-    ensures refused { IfSome result.1 (λ bus. (⟦<HostBus<CHost<S>> as Bus>⟧.view bus).is_kept ≡ true
-        → InProfile (S.story.outcome []).card.made → (result.0 ≡ pos 0 → ⊥)
-        → (S.story.outcome []).faults + 3 ≤ (⟦<HostBus<CHost<S>> as Bus>⟧.view bus).faults) }
+    ensures no_host { is_unready result ≡ true → card.new ≡ record card.old { state = 0 } }
+    ensures stays { IsTrueOf S.story did.new.past → HasStayed (S.story.outcome did.old.past) (S.story.outcome did.new.past) }
+    ensures opened { IsTrueOf S.story did.new.past → result ≡ pos 0 → IsOpened way.now (S.story.outcome did.new.past) card.new }
+    ensures refused { IsTrueOf S.story did.new.past → InProfile (S.story.outcome did.old.past).card.made → (result ≡ pos 0 → ⊥)
+        → is_unready result ≡ false → (S.story.outcome did.old.past).faults + 3 ≤ (S.story.outcome did.new.past).faults }
+    ensures goes_on { way.now.by ≡ 0 → IsTrueOf S.story did.new.past
+        → GoesOn S.story way.now (Opened result) did.old.past card.old did.new.past card.new }
 {
     given_by(way).switch_on();
-    let first = open_once(way, card, healed);
-    if first.0 != NO_CARD || way.switches_power == 0 {
+    let first = open_once::<S>(way, card, healed, did);
+    if first != NO_CARD || way.switches_power == 0 {
         return first;
     }
     given_by(way).switch_off();
     given_by(way).switch_on();
-    open_once(way, card, healed)
+    open_once::<S>(way, card, healed, did)
 }

@@ -21,7 +21,6 @@ use Rattle.mmc_block.specs.Service.Service.{Idle, Serving, Taken}
 use Rattle.mmc_block.specs.declared.completion.Completion.{Completion}
 use Rattle.mmc_block.specs.declared.service.Attempt.{Attempt}
 use Rattle.mmc_switch.specs.declared.stands.Stands.{Stands}
-use Rattle.mmc_switch.specs.declared.stands.Stands.TheVariants as Stands
 use Rattle.mmc_block.specs.declared.service.Stage.{Stage}
 use Rattle.mmc_block.specs.declared.service.Stage.TheVariants.{At, Running}
 

@@ -19,7 +19,6 @@ use Rattle.mmc_transfer.specs.declared.pace.Pace.TheVariants.{Exchange, Transfer
 use Rattle.mmc_block.specs.Service.{tries}
 use Rattle.mmc_block.specs.declared.service.Attempt.{Attempt}
 use Rattle.mmc_switch.specs.declared.stands.Stands.{Stands}
-use Rattle.mmc_switch.specs.declared.stands.Stands.TheVariants as Stands
 use Rattle.mmc_switch.specs.declared.progress.Progress.{Progress}
 use Rattle.mmc_switch.specs.declared.progress.Progress.TheVariants.{Done, Failed, More}
 use Rattle.mmc_block.specs.declared.service.Work.{Work}

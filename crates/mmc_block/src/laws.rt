@@ -5,6 +5,7 @@ ghost use Rattle.mmc_card.specs.Card.{Card, holds};
 ghost use Rattle.mmc_card.specs.Sectors.{IsDecided, Sector, Sets, Within, touches};
 ghost use Rattle.mmc_block.specs.declared.completion.Completion.{Completion};
 ghost use Rattle.mmc_switch.specs.declared.info.Info.{Info};
+ghost use Rattle.mmc_block.specs.Alone.{ServesAlone};
 ghost use Rattle.mmc_block.specs.Answers.{any_failed, failures, is_failed};
 ghost use Rattle.mmc_block.specs.Machine.{Completes, Decides, Machine, Turns};
 ghost use Rattle.mmc_block.specs.MachineLaws.{EachOnce, KeepsValues};
@@ -88,6 +89,11 @@ pub fn an_execution_has_its_laws()
     answers_are_in_order();
     contents_are_in_order();
 }
+
+/// A request that is served on a card at which nothing waits is a step of the machine too, by which it is submitted and then answered.
+pub fn a_request_alone_is_a_submission_and_a_turn()
+    ensures { ServesAlone }
+{}
 
 /// Each sector of a card at rest is decided: no write or erase is unfinished.
 pub fn a_card_at_rest_is_decided()

@@ -135,3 +135,14 @@ noted_of host wire misused note within n = record {
   stands = stands_too n.how (bus_over host wire misused) (bus_going_on host (lines_in n.how)) refl
       within refl n.stands;
 }
+
+-- the card of a host to which nothing was done stands as it did, and the record notes it again
+pub noted_still : (stands : Stands) (host : HostView) (note : CardRecord) → Notes stands note
+    → StandsIn stands (bus_going_on host (lines_in stands)) → IsNotedOf note host
+noted_still stands host note notes at =
+    let n = notes (bus_going_on host (lines_in stands)) at in
+    record {
+      how = n.how;
+      says = n.says;
+      stands = stands_too n.how (bus_going_on host (lines_in stands)) (bus_going_on host (lines_in n.how)) refl refl refl n.stands;
+    }

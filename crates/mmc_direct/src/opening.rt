@@ -1,5 +1,6 @@
 // Opening a card.
-ghost use Rattle.std.specs.Prelude.{◌+◌, ◌≡◌, ◌≤◌, IfErr, IfOk, true};
+ghost use Rattle.std.specs.Prelude.{◌+◌, ◌≡◌, ◌≤◌, IfErr, IfOk, IsOk, true};
+ghost use Rattle.mmc_bus.specs.Work.{Moves};
 ghost use Rattle.mmc_card.specs.Profile.{InProfile};
 ghost use Rattle.mmc_recovery.specs.Healed.{none_met};
 ghost use Rattle.mmc_switch.specs.declared.opening.TheConstants.{EXCHANGES_OF_AN_OPENING};
@@ -10,7 +11,7 @@ use mmc_record::{CardRecord, note};
 use mmc_recovery::Healed;
 use mmc_switch::{InitializationFault, open_card};
 
-/// Opens the card, whatever became of it before, and notes it. Until it is open the record is that of no card. What is met and healed
+/// Opens the card, whatever became of it before, and notes it: no sector may hold more than before. Until it is open the record is that of no card. What is met and healed
 /// is counted from here on. What cards of its make are known to do wrong isn't used: trims of some eMMC devices, and CMD23 of some
 /// SD cards.
 ///
@@ -22,7 +23,10 @@ pub fn open<B: Bus>(
     healed: &mut Healed,
 ) -> Result<(), InitializationFault>
     ensures bounded { (B.view bus.new).exchanges ≤ (B.view bus.old).exchanges + EXCHANGES_OF_AN_OPENING }
-    ensures opened { (B.view bus.new).is_kept ≡ true → IfOk result (λ _. IsReadyAs card.new (B.view bus.new)) }
+    ensures moves { Moves
+        (λ old new. IfOk result (λ _. IsReadyAs card.new new))
+        (λ old new. InProfile old.card.made → IsOk result)
+        (B.view bus.old) (B.view bus.new) }
     ensures healed { healed.new ≡ none_met }
     ensures not_open { IfErr result (λ _. card.new ≡ record card.old { state = 0 }) }
     ensures refused { (B.view bus.new).is_kept ≡ true → InProfile (B.view bus.old).card.made

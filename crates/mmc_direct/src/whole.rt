@@ -1,15 +1,15 @@
 // A whole call: a request is judged, a host goes on with a card that was noted, the request is served, and how the card stands is
 // noted. The bus is handed out, since by it the contract says what became of the card.
-ghost use Rattle.std.specs.Prelude.{◌*◌, ◌≡◌, ◌≤◌, Err, IfOk, is_err, is_some};
+ghost use Rattle.std.specs.Prelude.{◌*◌, ◌≡◌, ◌≤◌, Err, IfOk, is_err, is_some, true};
 ghost use Rattle.mmc_direct.specs.Attempts.{exchanges_of};
 ghost use Rattle.mmc_direct.specs.Refusal.{refusal_of};
 ghost use Rattle.mmc_direct.specs.Requests.{Serves};
 ghost use Rattle.mmc_direct.specs.Served.{IfRefused, IfServed, refusal_in};
 ghost use Rattle.mmc_requests.specs.declared.limits.TheConstants.{ATTEMPTS};
-ghost use Rattle.mmc_switch.specs.Stands.{info_of};
+ghost use Rattle.mmc_switch.specs.Stands.{StandsIn, info_of};
 ghost use Rattle.mmc_host.specs.HostStates.{IsBetween};
 ghost use Rattle.mmc_host.specs.Hosts.{Where};
-ghost use Rattle.mmc_direct.specs.Noted.{IsCounted, IsNotedOf, IsServed, Notes, WhereStood};
+ghost use Rattle.mmc_direct.specs.Noted.{IsCounted, IsNotedOf, IsServed, Notes, WhereStood, bus_going_on, lines_in};
 
 use crate::going_on::go_on;
 use crate::noting::{noted, noted_after};
@@ -48,10 +48,13 @@ pub fn serve_over<H: Host, R: Request>(
     ensures leaves { R.leaves request.old request.new }
     ensures bounded { IfOk result.1 (λ bus.
         (⟦<HostBus<H> as Bus>⟧.view bus).exchanges ≤ ATTEMPTS * exchanges_of (R.asked request.old)) }
+    ensures kept { IfOk result.1 (λ bus. (⟦<HostBus<H> as Bus>⟧.view bus).is_kept ≡ true → (H.view host).is_kept ≡ true) }
     ensures served { IfOk result.1 (λ bus. IsServed (Serves (R.change (info_of stands) request.old) (λ sets. R.has sets request.new))
         stands (H.view host) result.0 card.new (⟦<HostBus<H> as Bus>⟧.view bus)) }
     ensures noted { IfOk result.1 (λ bus. WhereStood stands (H.view host) (⟦<HostBus<H> as Bus>⟧.view bus)
         (IsNotedOf card.new (H.view bus.host))) }
+    ensures noted_again { IfRefused result.0 (StandsIn stands (bus_going_on (H.view host) (lines_in stands))
+        → IsNotedOf card.new (H.view host)) }
 {
     let asked = request.asked();
     if let Some(why) = refusal(

@@ -22,6 +22,8 @@ pub data Event : Type 0 where
   ReadWith : HostCommand → Result Heard ResponseFault → Moved DataIn → List (List ℕ) → Event
   -- this command was sent with these blocks to go after it; this was heard, and this was moved
   WrittenWith : HostCommand → Result Heard ResponseFault → List (List ℕ) → Moved DataOut → Event
+  -- it was asked for what no controller can do
+  Misused : Event
 
 pub record Entry : Type 0 where
   -- what the host had been told before, its lines among it

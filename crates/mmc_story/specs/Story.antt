@@ -10,7 +10,7 @@ use Rattle.mmc_bus.specs.Exchanges.{Kept}
 use Rattle.mmc_host.specs.Hosts.{Answers, HostView, answer_heard, bus_of}
 use Rattle.mmc_host.specs.declared.told.HostState.{HostState}
 use Rattle.mmc_story.specs.Entry.{Entry, Event}
-use Rattle.mmc_story.specs.Entry.Event.{Looked, Read, ReadWith, Sent, Written, WrittenWith}
+use Rattle.mmc_story.specs.Entry.Event.{Looked, Misused, Read, ReadWith, Sent, Written, WrittenWith}
 use Rattle.mmc_story.specs.Transfers.{ReadsTogether, WritesTogether}
 
 -- What became of a card.
@@ -46,6 +46,7 @@ Allows old (Written block got) new = WriteStep old block got new
 Allows old (Looked is_busy) new = PollStep old is_busy new
 Allows old (ReadWith command heard moved blocks) new = ReadsTogether old command heard moved blocks new
 Allows old (WrittenWith command heard blocks moved) new = WritesTogether old command heard blocks moved new
+Allows old Misused new = ⊥
 
 -- An entry is one step of the card, or those of the exchanges of one call.
 abbrev pub IsStep : Outcome → Entry → Outcome → Type 0

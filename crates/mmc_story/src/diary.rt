@@ -191,6 +191,8 @@ pub enum Call<'a> {
         /// What was moved.
         moved: Moved<DataOut>,
     },
+    /// It was asked for what no controller can do.
+    Misused,
 }
 
 /// What is noted.

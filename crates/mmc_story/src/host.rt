@@ -1,11 +1,10 @@
 ghost use Rattle.std.specs.Prelude.{◌≡◌, ◌∷◌, [], false, true};
-ghost use Rattle.mmc_card.specs.Limits.{fewer};
 ghost use Rattle.mmc_host.specs.HostStates.{begun, resting};
 
 use crate::diary::{Call, Diary, HostStep, Note, Seen, SeenState};
 use crate::story::HasStory;
 use mmc_bus::{Blocks, BlocksMut, Moved};
-use mmc_card::{DataIn, DataOut, Lines, Width};
+use mmc_card::{DataIn, DataOut, Lines};
 use mmc_host::{Heard, Host, HostBus, HostCommand, HostState, Ios, ResponseFault, Work};
 use std::marker::PhantomData;
 
@@ -31,6 +30,7 @@ pub type StoryBus<H, S> = HostBus<StoryHost<H, S>>;
 
 impl<H: Host, S: HasStory> StoryHost<H, S> {
     ghost use Rattle.mmc_story.specs.Noted.{event_of};
+    ghost use Rattle.mmc_story.specs.Story.{IsTrueOf};
 
     /// A host over a driver of which nothing is proved, as of one with the view `unkept_host`. It was sent no command so far, and
     /// its lines and clock are as before the first one: one line, at most 400 kHz.
@@ -68,13 +68,44 @@ impl<H: Host, S: HasStory> StoryHost<H, S> {
         }
     }
 
-    /// The same on so many data lines at most.
-    pub fn within(self, most: Width) -> StoryHost<H, S>
-        ensures { result ≡ record self { limits = record self.limits { width = fewer self.limits.width most } } }
+    /// The same, of which it is known otherwise what it can.
+    pub fn limited(self, limits: Lines) -> StoryHost<H, S>
+        ensures { result ≡ record self { limits = limits } }
     {
         let mut host = self;
-        host.limits.width = host.limits.width.fewer(most);
+        host.limits = limits;
         host
+    }
+
+    /// The same, which goes on after what was done in earlier calls: then the story is that of all of them.
+    pub fn after(self, did: &Diary) -> StoryHost<H, S>
+        ensures past { result.diary.past ≡ did.now.past }
+        ensures same { result ≡ record self { diary = result.diary } }
+    {
+        let mut host = self;
+        host.diary = did.again();
+        host
+    }
+
+    /// What it did so far.
+    pub fn diary(&self) -> &Diary
+        ensures { result.now ≡ self.now.diary }
+    {
+        &self.diary
+    }
+
+    /// The driver of a bus that is used no more, and what was done. Of that no story is true where something was asked for that no
+    /// controller can do.
+    pub fn ended(bus: StoryBus<H, S>) -> (H, Diary)
+        ensures host { result.0 ≡ bus.host.host }
+        ensures did { IsTrueOf S.story result.1.past → (bus.is_misused ≡ false) × (result.1.past ≡ bus.host.diary.past) }
+    {
+        let is_misused = bus.is_misused();
+        let mut host = bus.into_host();
+        if is_misused {
+            host.note(Call::Misused);
+        }
+        (host.host, host.diary)
     }
 
     /// The driver.
@@ -100,6 +131,7 @@ impl<H: Host, S: HasStory> StoryHost<H, S> {
         } ∷ self.old.diary.past }
         ensures state { self.new.told.state ≡ self.old.told.state }
         ensures limits { self.new.limits ≡ self.old.limits }
+        ensures host { self.new.host ≡ self.old.host }
     {
         self.diary = self.diary.then(&Note {
             told: &self.told,

@@ -3,7 +3,7 @@ use Rattle.mmc_requests.specs.Kinds.{is_read}
 use Rattle.kelifandro.proofs.longs.serve_parts.Given as goal
 
 abbrev pub invariant-loop-done : goal.invariant-loop-done
-invariant-loop-done l =
+invariant-loop-done g l =
     record {
       inside : l.done ≤ l.count;
       length : length l.blocks ≡ length l.initial.blocks;
@@ -11,4 +11,4 @@ invariant-loop-done l =
     }
 
 abbrev pub decreases-loop-done : goal.decreases-loop-done
-decreases-loop-done l = l.count - l.done
+decreases-loop-done g l = l.count - l.done

@@ -4,7 +4,7 @@ use Rattle.mmc_direct.specs.declared.served.Served.{Served}
 use Rattle.mmc_switch.specs.Stands.{info_of, stands_of}
 use Rattle.mmc_host.specs.Hosts.{bus_over}
 use Rattle.mmc_direct.specs.Noted.{bus_going_on, lines_in}
-use Rattle.mmc_direct.proofs.NotedLemmas.{and_left, counted_by, noted_of, served_over}
+use Rattle.mmc_direct.proofs.NotedLemmas.{and_left, counted_by, noted_of, noted_still, served_over}
 use Rattle.mmc_direct.proofs.RequestLemmas.{has_served}
 use Rattle.mmc_direct.proofs.whole.serve_over.Goals as goal
 
@@ -35,3 +35,11 @@ returns-clause-noted g c k at =
     let s = returns-clause-served g c in
     noted_of (g.H.Host.view bus.host) bus.wire bus.is_misused c.noted_after.result (bus.within (and_left _ _ k))
     (s.notes (bus_over (g.H.Host.view bus.host) bus.wire bus.is_misused) (s.has k at).changed.stands)
+
+pub returns-clause-kept : goal.returns-clause-kept
+returns-clause-kept g c k =
+    (c.go_on-bus.ensures.goes_on (and_left _ _ (c.keep_trying-outcome.ensures.tries.kept k))).0
+
+pub returns-in-Some-clause-noted_again : goal.returns-in-Some-clause-noted_again
+returns-in-Some-clause-noted_again g c =
+    noted_still c.args.stands (g.H.Host.view c.args.host) c.noted.result c.noted.ensures

@@ -1,0 +1,142 @@
+-- What the calls of C come to, whatever fell: what memory holds, the numbers that were told and the contents of the card are a run of the
+-- sector machine (`mmc_block`, `Machine`), of which each call is a request that is answered before the next one comes.
+use Rattle.std.specs.Prelude.{◌++◌, ◌∷◌, ◌≡◌, ◌≤◌, ◌⊎◌, [], List, false, length, pos, true, ℕ, ℤ}
+use Rattle.mmc_card.specs.Card.{Card, holds}
+use Rattle.mmc_card.specs.Laws.{Carried}
+use Rattle.mmc_card.specs.Made.{Made}
+use Rattle.mmc_card.specs.Sectors.{Sector, Within}
+use Rattle.mmc_card.specs.declared.exchange.Lines.{Lines}
+use Rattle.mmc_card.specs.declared.part.Part.{Part}
+use Rattle.mmc_switch.specs.Info.{IsKnown}
+use Rattle.mmc_switch.specs.declared.info.Info.{Info}
+use Rattle.mmc_requests.specs.declared.kind.Kind.{Kind}
+use Rattle.mmc_requests.specs.declared.kind.Kind.TheVariants as to
+use Rattle.mmc_queue.specs.declared.request.Request.{Request}
+use Rattle.mmc_queue.specs.declared.request.Request.TheVariants.{Erase, Read, Trim, Write}
+use Rattle.mmc_block.specs.Alone.{IsServedAlone, idle}
+use Rattle.mmc_block.specs.Machine.{Machine}
+use Rattle.mmc_block.specs.declared.completion.Answer.{Answer}
+use Rattle.mmc_block.specs.declared.completion.Answer.TheVariants.{Data, Done, Failed}
+use Rattle.mmc_direct.specs.Noted.{IsNotedOf, bus_going_on}
+use Rattle.mmc_direct.specs.Opened.{IsReadyAs}
+use Rattle.mmc_direct.specs.declared.asked.Asked.{Asked}
+use Rattle.mmc_host.specs.HostStates.{begun}
+use Rattle.mmc_record.specs.Note.{is_note}
+use Rattle.mmc_record.specs.declared.record.CardRecord.{CardRecord}
+use Rattle.mmc_story.specs.Entry.{Entry}
+use Rattle.mmc_story.specs.Story.{IsTrueOf, Outcome, Story, host_with}
+use Rattle.c_host.specs.declared.given.WayRecord.{WayRecord}
+use Rattle.kelifandro.specs.Answers.{cause_number}
+use Rattle.kelifandro.specs.Calls.{is_attempted, limits_by}
+
+-- A request, with what its memory held before and holds after it, and the number that it was answered.
+pub record Told : Type 0 where
+  pub asked : Asked
+  pub before : List Sector
+  pub after : List Sector
+  pub number : ℤ
+
+-- What C has called.
+pub data Call : Type 0 where
+  -- the card was opened, or wasn't, by this number
+  Opened : ℤ → Call
+  Served : Told → Call
+  Closed : Call
+
+-- the bytes of these sectors, one after the other
+abbrev pub joined : List Sector → List ℕ
+joined [] = []
+joined (sector ∷ sectors) = sector ++ joined sectors
+
+abbrev pub request_by : Kind → Part → ℕ → ℕ → List Sector → Request
+request_by to.Read part start count memory = Read part start (length memory)
+request_by to.Write part start count memory = Write part start (length memory) (joined memory)
+request_by to.Erase part start count memory = Erase part start count
+request_by to.Trim part start count memory = Trim part start count
+
+-- the request of the machine that was asked for with this memory
+abbrev pub request_of : Asked → List Sector → Request
+request_of asked memory = request_by asked.kind asked.part asked.start asked.count memory
+
+-- The number tells this answer, and what a read gives is what memory holds then.
+abbrev pub TellsAnswer : ℤ → List Sector → Answer → Type 0
+TellsAnswer number after Done = number ≡ pos 0
+TellsAnswer number after (Data bytes) = (number ≡ pos 0) × (bytes ≡ joined after)
+TellsAnswer number after (Failed cause) = number ≡ cause_number cause
+
+-- It was submitted to the machine at which nothing waited, and answered by the turn after it; this is known of the card by its registers.
+pub record IsAnswered (limits : Lines) (made : Made) (old : Machine) (told : Told) (new : Machine) : Type 0 where
+  pub info : Info
+  pub known : IsKnown limits made info
+  pub answer : Answer
+  pub tells : TellsAnswer told.number told.after answer
+  pub served : IsServedAlone info old (request_of told.asked told.before) answer new
+
+-- A request that wasn't attempted changes nothing.
+pub record IsUnmade (old : Machine) (told : Told) (new : Machine) : Type 0 where
+  pub number : is_attempted told.number ≡ false
+  pub memory : told.after ≡ told.before
+  pub machine : new ≡ old
+
+abbrev pub IsStep : Lines → Made → Machine → Call → Machine → Type 0
+IsStep limits made old (Opened number) new = new ≡ old
+IsStep limits made old (Served told) new = IsUnmade old told new ⊎ IsAnswered limits made old told new
+IsStep limits made old Closed new = new ≡ old
+
+-- These calls, the last one first, have led from one machine to the other.
+abbrev pub AreSteps : Lines → Made → Machine → List Call → Machine → Type 0
+AreSteps limits made start [] machine = machine ≡ start
+AreSteps limits made start (call ∷ earlier) machine =
+    (before : Machine) × AreSteps limits made start earlier before × IsStep limits made before call machine
+
+-- From the card as it was at first these calls, the last one first, have come to a card that is so now.
+pub record HasServed (limits : Lines) (start now : Card) (calls : List Call) : Type 0 where
+  pub machine : Machine
+  -- the calls are an execution of the sector machine
+  pub executed : AreSteps limits start.made (idle (holds start) 0) calls machine
+  -- the card's sectors hold no more than the machine's may
+  pub contents : Within (holds now) machine.sets
+  -- nothing is without an answer
+  pub answered : machine ≡ idle machine.sets machine.next
+  -- it is the same card, with as many sectors
+  pub carried : Carried start now
+
+-- A card that is noted stands so, after what was done, behind the functions of such a way.
+abbrev pub IsKept : Story → WayRecord → List Entry → CardRecord → Type 0
+IsKept story way did note = is_note note ≡ true → IsNotedOf note (host_with (story.outcome did) begun (limits_by way))
+
+-- A card was opened, or wasn't: it is the same one, and no sector may hold more.
+pub record HasStayed (old new : Outcome) : Type 0 where
+  pub was_true : old.conformed ≡ true
+  pub carried : Carried old.card new.card
+  pub later : old.faults ≤ new.faults
+  pub narrows : Within (holds new.card) (holds old.card)
+
+-- It is ready, as the record notes, behind a host that can so much.
+pub record IsOpened (way : WayRecord) (now : Outcome) (note : CardRecord) : Type 0 where
+  pub limits : Lines
+  pub functions : way.by ≡ 0 → limits ≡ limits_by way
+  pub lines : Lines
+  pub ready : IsReadyAs note (bus_going_on (host_with now begun limits) lines)
+
+-- One call more, where the story is true of what was done in it too.
+pub record GoesOn (story : Story) (way : WayRecord) (call : Call) (did : List Entry) (note : CardRecord) (does : List Entry)
+    (notes : CardRecord) : Type 0 where
+  pub was_true : IsTrueOf story did
+  pub kept : IsKept story way did note → IsKept story way does notes
+  pub served : IsKept story way did note → (start : Card) (earlier : List Call)
+      → HasServed (limits_by way) start (story.outcome did).card earlier
+      → HasServed (limits_by way) start (story.outcome does).card (call ∷ earlier)
+
+-- What contracts see of a card with its history: what was done and what was called so far, the last one first.
+pub record CardHistory : Type 0 where
+  pub way : WayRecord
+  pub did : List Entry
+  pub calls : List Call
+
+-- One call more. Where the story is true of what was done so far all calls together are a run of the sector machine.
+pub record Continues (story : Story) (old : CardHistory) (call : Call) (new : CardHistory) : Type 0 where
+  pub way : new.way ≡ old.way
+  pub calls : new.calls ≡ call ∷ old.calls
+  pub served : new.way.by ≡ 0 → IsTrueOf story new.did
+      → HasServed (limits_by new.way) (story.outcome []).card (story.outcome new.did).card new.calls
