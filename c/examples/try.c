@@ -199,7 +199,7 @@ static unsigned long whole(int is_emmc, enum way way, unsigned long lost, int is
     expect(memcmp(card.user[7], data, RUN * 512) == 0, "what was written", lost);
     expect(kelifandro_read(&sd, KELIFANDRO_USER, 7, RUN, back) == KELIFANDRO_DONE, "read", lost);
     expect(memcmp(back, data, RUN * 512) == 0, "what was read", lost);
-    sd.card.unused[0] = sd.card.unused[1] = 0x5a;
+    memset(&sd.call, 1, sizeof sd.call); /* between two calls it means nothing */
     if (is_emmc) {
         expect(kelifandro_write(&sd, KELIFANDRO_BOOT2, 3, 2, data) == KELIFANDRO_DONE, "write to boot 2", lost);
         expect(memcmp(card.boot[1][3], data, 1024) == 0, "what was written to boot 2", lost);
@@ -215,7 +215,6 @@ static unsigned long whole(int is_emmc, enum way way, unsigned long lost, int is
     expect((controller.moved > 0) == (way >= DMA_BY_ADDRESS), "blocks that DMA moved", lost);
     expect((controller.read_whole > 0) == (way == BY_PORT) && (controller.written_whole > 0) == (way == BY_PORT), "blocks by one call", lost);
     expect((paused_shortly > 0) == has_registers(way), "pauses by registers", lost);
-    expect(!sd.card.unused[0] && !sd.card.unused[1], "bytes that are 0 after each call", lost);
     counts(is_emmc ? 5 : 3, lost >= opened && lost < card.answers && !card.is_look_lost, lost);
     return card.answers;
 }
@@ -239,7 +238,9 @@ static void each_in_turn(int is_emmc, enum way way)
 static void refusals(enum way way)
 {
     begin(0, way);
+    sd.card.unused[0] = sd.card.unused[1] = 1;
     expect(kelifandro_read(&sd, KELIFANDRO_USER, 0, 1, back) == KELIFANDRO_NOT_OPEN, "not open", way);
+    expect(!sd.card.unused[0] && !sd.card.unused[1], "bytes that are 0 after each call", way);
     kelifandro_open(&sd);
     unsigned long before = card.answers, told = card.told;
     expect(kelifandro_read(&sd, KELIFANDRO_BOOT1, 0, 1, back) == KELIFANDRO_NO_PARTITION, "no partition", way);
@@ -405,6 +406,9 @@ static void switches(enum way way)
     int by_registers = sd.registers != 0;
     expect(kelifandro_is_inserted(&sd) == (by_registers ? 1 : KELIFANDRO_NO_HOST), "inserted", way);
     expect(kelifandro_is_write_protected(&sd) == (by_registers ? 0 : KELIFANDRO_NO_HOST), "write protected", way);
+    controller.is_locked = 1;
+    expect(kelifandro_is_write_protected(&sd) == (by_registers ? way != BARE : KELIFANDRO_NO_HOST), "write protected, turned", way);
+    controller.is_locked = 0;
     expect(kelifandro_open(&sd) == KELIFANDRO_DONE, "open", way);
     kelifandro_close(&sd);
     expect(kelifandro_sectors(&sd, KELIFANDRO_USER) == 0 && controller.power == 0, "closed", way);
