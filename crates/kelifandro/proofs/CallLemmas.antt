@@ -1,7 +1,7 @@
 -- What C is told of a request, and what was promised of it.
 use Rattle.std.proofs.Common.{◌&&◌, ◌∙◌, ◌≡◌, ap, refl, subst, sym}
 use Rattle.std.proofs.lemmas.Bool.{false≢true}
-use Rattle.std.specs.Prelude.{Bool, Err, IfErr, IfOk, IfSome, IsOk, List, None, Ok, Option, Result, Some, false, nat_lt, negsuc, pos, true, ℕ, ℤ}
+use Rattle.std.specs.Prelude.{Bool, Err, IfErr, IfOk, IfSome, IsOk, List, None, Ok, Option, Result, Some, false, pos, true, ℕ, ℤ}
 use Rattle.mmc_bus.specs.declared.cause.Cause.{Cause}
 use Rattle.mmc_bus.specs.declared.cause.Cause.TheVariants.{Answer, Busy, Data, Recovery, Status}
 use Rattle.mmc_direct.specs.Noted.{IsCounted, Notes, lines_in}
@@ -27,33 +27,6 @@ use Rattle.kelifandro.specs.Answers.{answer_number, cause_number, refused_number
 use Rattle.kelifandro.specs.Longs.{begins_by}
 use Rattle.kelifandro.specs.Calls.{IfNoted, IsAsNoted, TellsCounts, TellsWhy, host_of, is_attempted, is_open}
 
--- a number of a refusal, and of nothing else
-abbrev is_refusal : ℤ → Bool
-is_refusal (pos n) = false
-is_refusal (negsuc n) = nat_lt n 9
-
-refusals : (why : Refused) → is_refusal (refused_number why) ≡ true
-refusals NoSuchPartition = refl
-refusals OutOfRange = refl
-refusals Empty = refl
-refusals TooLong = refl
-refusals ReadOnly = refl
-refusals NotInPartition = refl
-refusals NoTrim = refl
-refusals Unaligned = refl
-
-others : (answer : Result Unit NotDone) → refusal_in answer ≡ None → is_refusal (answer_number answer) ≡ false
-others (Ok done) is = refl
-others (Err (RefusedFor why)) is = absurd (cc)
-others (Err (Failed Answer)) is = refl
-others (Err (Failed Data)) is = refl
-others (Err (Failed Status)) is = refl
-others (Err (Failed Busy)) is = refl
-others (Err (Failed Recovery)) is = refl
-
-not_done : (why : Refused) → refused_number why ≡ pos 0 → ⊥
-not_done why is = false≢true (sym (ap (λ (n : ℤ). is_refusal n) is) ∙ refusals why)
-
 -- the number of an answer that refuses
 refused_answer : (answer : Result Unit NotDone) (why : Refused) → refusal_in answer ≡ Some why
     → answer_number answer ≡ refused_number why
@@ -62,20 +35,6 @@ refused_answer (Err (RefusedFor other)) why is =
     let same : other ≡ why = cc in
     ap (λ (w : Refused). refused_number w) same
 refused_answer (Err (Failed cause)) why is = absurd (cc)
-
--- a refusal is told by its number; where the call came to no host, by another than that of what is done
-pub tells_why : {A : Type 0} (answer : A → Result Unit NotDone) (way : ℕ) (why : Option Refused) (called : Result A ℤ) (number : ℤ)
-    → IfOk called (λ did. number ≡ answer_number (answer did)) → IfErr called (λ other. number ≡ other)
-    → IfErr called (λ other. other ≡ pos 0 → ⊥) → (way ≡ 0 → IsOk called)
-    → IfOk called (λ did. refusal_in (answer did) ≡ why) → TellsWhy way why number
-tells_why answer way None (Ok did) number told other fault comes judged = λ host why is.
-    false≢true (sym (others (answer did) judged) ∙ ap (λ (n : ℤ). is_refusal n) (sym told ∙ is) ∙ refusals why)
-tells_why answer way None (Err not) number told other fault comes judged = λ host why is. absurd (false≢true (comes host))
-tells_why answer way (Some why) (Ok did) number told other fault comes judged =
-    let is : number ≡ refused_number why = told ∙ refused_answer (answer did) why judged in
-    (λ done. not_done why (sym is ∙ done), λ host. is)
-tells_why answer way (Some why) (Err not) number told other fault comes judged =
-    (λ done. fault (sym other ∙ done), λ host. absurd (false≢true (comes host)))
 
 pub refused_unmade : (why : Refused) → is_attempted (refused_number why) ≡ false
 refused_unmade NoSuchPartition = refl
@@ -87,12 +46,34 @@ refused_unmade NotInPartition = refl
 refused_unmade NoTrim = refl
 refused_unmade Unaligned = refl
 
+not_done : (why : Refused) → refused_number why ≡ pos 0 → ⊥
+not_done why is = false≢true (sym (refused_unmade why) ∙ ap (λ (n : ℤ). is_attempted n) is)
+
 failed_made : (cause : Cause) → is_attempted (cause_number cause) ≡ true
 failed_made Answer = refl
 failed_made Data = refl
 failed_made Status = refl
 failed_made Busy = refl
 failed_made Recovery = refl
+
+made_by : (answer : Result Unit NotDone) → refusal_in answer ≡ None → is_attempted (answer_number answer) ≡ true
+made_by (Ok done) none = refl
+made_by (Err (RefusedFor why)) none = absurd (cc)
+made_by (Err (Failed cause)) none = failed_made cause
+
+-- a refusal is told by its number; where the call came to no host, by another than that of what is done
+pub tells_why : {A : Type 0} (answer : A → Result Unit NotDone) (way : ℕ) (why : Option Refused) (called : Result A ℤ) (number : ℤ)
+    → IfOk called (λ did. number ≡ answer_number (answer did)) → IfErr called (λ other. number ≡ other)
+    → IfErr called (λ other. other ≡ pos 0 → ⊥) → (way ≡ 0 → IsOk called)
+    → IfOk called (λ did. refusal_in (answer did) ≡ why) → TellsWhy way why number
+tells_why answer way None (Ok did) number told other fault comes judged = λ host.
+    ap (λ (n : ℤ). is_attempted n) told ∙ made_by (answer did) judged
+tells_why answer way None (Err not) number told other fault comes judged = λ host. absurd (false≢true (comes host))
+tells_why answer way (Some why) (Ok did) number told other fault comes judged =
+    let is : number ≡ refused_number why = told ∙ refused_answer (answer did) why judged in
+    (λ done. not_done why (sym is ∙ done), λ host. is)
+tells_why answer way (Some why) (Err not) number told other fault comes judged =
+    (λ done. fault (sym other ∙ done), λ host. absurd (false≢true (comes host)))
 
 refused_only : (answer : Result Unit NotDone) (Holds : Type 0) → is_attempted (answer_number answer) ≡ false
     → IfRefused answer Holds → Holds

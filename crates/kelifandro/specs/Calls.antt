@@ -52,16 +52,16 @@ limits_by way = limits_within way (lines_by way.lines way.high_speed)
 abbrev pub host_of : Story → List Entry → Stands → Lines → HostView
 host_of story did stands limits = host_with (story.outcome did) (resting (lines_in stands)) limits
 
--- A request that may not be made is never told as done. By functions it is told by the number of why, and no other request is told as
--- refused; by registers the controller may not be ready, which comes first.
-abbrev pub TellsWhy : ℕ → Option Refused → ℤ → Type 0
-TellsWhy way None number = way ≡ 0 → (why : Refused) → number ≡ refused_number why → ⊥
-TellsWhy way (Some why) number = (number ≡ pos 0 → ⊥) × (way ≡ 0 → number ≡ refused_number why)
-
 -- the number of a request that was attempted: it is done, or has failed
 abbrev pub is_attempted : ℤ → Bool
 is_attempted (pos n) = n == 0
 is_attempted (negsuc n) = nat_lt 8 n && nat_lt n 14
+
+-- A request that may not be made is never told as done. By functions it is told by the number of why, and any other is attempted; by
+-- registers the controller may not be ready, which comes first.
+abbrev pub TellsWhy : ℕ → Option Refused → ℤ → Type 0
+TellsWhy way None number = way ≡ 0 → is_attempted number ≡ true
+TellsWhy way (Some why) number = (number ≡ pos 0 → ⊥) × (way ≡ 0 → number ≡ refused_number why)
 
 -- A request that was attempted is counted by its attempts, whose outcome the number tells.
 abbrev pub TellsCounts : Stands → Healed → ℤ → CardRecord → Healed → Type 0

@@ -46,6 +46,7 @@ pub fn begin<S: HasStory>(way: &WayRecord, did: &Diary) -> Result<CHost<S>, i32>
     ensures limits { way.now.by ≡ 0 → IfOk result (λ host. host.limits ≡ limits_by way.now) }
     ensures state { IfOk result (λ host. host.told.state ≡ begun) }
     ensures fault { IfErr result (λ number. is_unready number ≡ true) }
+    ensures functions { way.now.by ≡ 0 → IsOk result }
 {
     match Way::begin(given_by(way)) {
         Ok(host) => {

@@ -66,6 +66,7 @@ fn open_once<S: HasStory>(
     ensures noted { result ≡ pos 0 → is_note card.new ≡ true }
     ensures healed { healed.new ≡ none_met }
     ensures no_host { is_unready result ≡ true → card.new ≡ record card.old { state = 0 } }
+    ensures functions { way.now.by ≡ 0 → is_unready result ≡ false }
     ensures no_card { result ≡ minus 20 → card.new ≡ record card.old { state = 0 } }
     ensures stays { IsTrueOf S.story did.new.past → HasStayed (S.story.outcome did.old.past) (S.story.outcome did.new.past) }
     ensures opened { IsTrueOf S.story did.new.past → result ≡ pos 0 → IsOpened way.now (S.story.outcome did.new.past) card.new }
@@ -100,6 +101,7 @@ pub fn open_by<S: HasStory>(
     ensures noted { result ≡ pos 0 → is_note card.new ≡ true }
     ensures healed { healed.new ≡ none_met }
     ensures no_host { is_unready result ≡ true → card.new ≡ record card.old { state = 0 } }
+    ensures functions { way.now.by ≡ 0 → is_unready result ≡ false }
     ensures stays { IsTrueOf S.story did.new.past → HasStayed (S.story.outcome did.old.past) (S.story.outcome did.new.past) }
     ensures opened { IsTrueOf S.story did.new.past → result ≡ pos 0 → IsOpened way.now (S.story.outcome did.new.past) card.new }
     ensures refused { IsTrueOf S.story did.new.past → InProfile (S.story.outcome did.old.past).card.made → (result ≡ pos 0 → ⊥)
