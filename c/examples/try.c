@@ -80,11 +80,14 @@ static int send(void *context, const struct kelifandro_command *command, uint32_
     return card_host.send(context, command, response);
 }
 
+/* How many blocks a transfer moves; the others are asked for one by one. */
+static size_t most_moved = (size_t)-1;
+
 static int transfer(void *context, const struct kelifandro_command *command, uint32_t response[4], void *memory, size_t blocks,
                     struct kelifandro_moved *moved)
 {
     expect(is_told_so(command) && blocks <= command->blocks, "what is told of a command with blocks", command->index);
-    return transfer_host.transfer(context, command, response, memory, blocks, moved);
+    return transfer_host.transfer(context, command, response, memory, blocks < most_moved ? blocks : most_moved, moved);
 }
 
 static int blind_transfer(void *context, const struct kelifandro_command *command, uint32_t response[4], void *memory, size_t blocks,
@@ -451,6 +454,8 @@ static void shown(enum way way)
     expect(kelifandro_read(&sd, KELIFANDRO_USER, 0, 1, back) == KELIFANDRO_DONE && sd.was_reset == 1, "and it says so still", way);
     sd.was_reset = 0;
     expect(kelifandro_read(&sd, KELIFANDRO_USER, 0, 1, back) == KELIFANDRO_DONE && sd.was_reset == 0, "until that is seen", way);
+    sd.was_reset = 1;
+    expect(kelifandro_open(&sd) == KELIFANDRO_DONE && sd.was_reset == 0, "or it is opened again", way);
     begin(1, way);
     sd.ext_csd = ext_csd;
     memset(sd.scr, 1, 8);
@@ -570,6 +575,9 @@ int main(int words, char **word)
     for (int way = HOST; way <= DMA_BY_WIDE_TABLE; way++)
         for (int is_emmc = 0; is_emmc < 2; is_emmc++)
             each_in_turn(is_emmc, way);
+    for (most_moved = 0; most_moved < RUN; most_moved += 5)
+        whole(0, TRANSFERS, ~0ul, 0), whole(1, TRANSFERS, ~0ul, 0);
+    most_moved = (size_t)-1;
     late = 2;
     for (int is_emmc = 0; is_emmc < 2; is_emmc++)
         each_in_turn(is_emmc, HOST), each_in_turn(is_emmc, SEVERAL_BLOCKS);
