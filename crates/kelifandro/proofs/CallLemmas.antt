@@ -1,9 +1,10 @@
 -- What C is told of a request, and what was promised of it.
-use Rattle.std.proofs.Common.{◌&&◌, ◌∙◌, ◌≡◌, ap, refl, subst, sym}
+use Rattle.std.proofs.Common.{◌∙◌, ◌≡◌, ap, refl, subst, sym}
 use Rattle.std.proofs.lemmas.Bool.{false≢true}
 use Rattle.std.specs.Prelude.{Bool, Err, IfErr, IfOk, IfSome, IsOk, List, None, Ok, Option, Result, Some, false, pos, true, ℕ, ℤ}
 use Rattle.mmc_bus.specs.declared.cause.Cause.{Cause}
 use Rattle.mmc_bus.specs.declared.cause.Cause.TheVariants.{Answer, Busy, Data, Recovery, Status}
+use Rattle.mmc_direct.proofs.NotedLemmas.{and_left}
 use Rattle.mmc_direct.specs.Noted.{IsCounted, Notes, lines_in}
 use Rattle.mmc_card.specs.declared.exchange.Lines.{Lines}
 use Rattle.mmc_card.specs.BusView.{BusView}
@@ -75,7 +76,7 @@ tells_why answer way (Some why) (Ok did) number told other fault comes judged =
 tells_why answer way (Some why) (Err not) number told other fault comes judged =
     (λ done. fault (sym other ∙ done), λ host. absurd (false≢true (comes host)))
 
-refused_only : (answer : Result Unit NotDone) (Holds : Type 0) → is_attempted (answer_number answer) ≡ false
+pub refused_only : (answer : Result Unit NotDone) (Holds : Type 0) → is_attempted (answer_number answer) ≡ false
     → IfRefused answer Holds → Holds
 refused_only (Ok done) Holds unmade holds = absurd (false≢true (sym unmade))
 refused_only (Err (RefusedFor why)) Holds unmade holds = holds
@@ -177,10 +178,6 @@ pub where_refused : {A P Q : Type 0} (answer : A → Result Unit NotDone) (calle
 where_refused answer (Err number) then holds = tt
 where_refused answer (Ok came) then holds = refused_then (answer came) then holds
 
-noted_by : (a b : Bool) → (a && b) ≡ true → a ≡ true
-noted_by true b is = refl
-noted_by false b is = absurd (false≢true is)
-
 opened_by : (b : Bool) → (b ≡ false → ⊥) → b ≡ true
 opened_by true not = refl
 opened_by false not = absurd (not refl)
@@ -192,4 +189,4 @@ ok_or_err is = absurd (cc)
 pub open_by : {A : Type 0} (way : WayRecord) (note : CardRecord) (number : ℤ) (called : Result A ℤ)
     → (is_open way note ≡ false → called ≡ Err number) → IfOk called (λ came. is_note note ≡ true)
 open_by way note number (Err other) not = tt
-open_by way note number (Ok came) not = noted_by (is_note note) _ (opened_by (is_open way note) (λ is. absurd (ok_or_err (not is))))
+open_by way note number (Ok came) not = and_left (is_note note) _ (opened_by (is_open way note) (λ is. absurd (ok_or_err (not is))))

@@ -35,7 +35,7 @@ use Rattle.kelifandro.specs.Answers.{answer_number}
 use Rattle.kelifandro.specs.Calls.{host_of, is_attempted, limits_by}
 use Rattle.kelifandro.specs.History.{GoesOn, IsKept, Told}
 use Rattle.kelifandro.specs.History.Call.{Served}
-use Rattle.kelifandro.proofs.CallLemmas.{refused_unmade}
+use Rattle.kelifandro.proofs.CallLemmas.{refused_only, refused_unmade}
 use Rattle.kelifandro.proofs.HistoryLemmas.{AreSectors, leaves_by, none_more, one_more}
 
 -- what is known of a card that stands so is what its registers say
@@ -61,11 +61,6 @@ refused_unmade_by (Ok done) some = absurd (false≢true some)
 refused_unmade_by (Err (RefusedFor why)) some = refused_unmade why
 refused_unmade_by (Err (Failed cause)) some = absurd (false≢true some)
 
-refused_so : (answer : Result Unit NotDone) (Holds : Type 0) → is_some (refusal_in answer) ≡ true → IfRefused answer Holds → Holds
-refused_so (Ok done) Holds some holds = absurd (false≢true some)
-refused_so (Err (RefusedFor why)) Holds some holds = holds
-refused_so (Err (Failed cause)) Holds some holds = absurd (false≢true some)
-
 ok_then : {P Q : Type 0} (answer : Result Unit NotDone) → (P → Q) → IfOk answer (λ _. P) → IfOk answer (λ _. Q)
 ok_then (Ok done) then holds = then holds
 ok_then (Err other) then holds = tt
@@ -88,9 +83,6 @@ module _ (story : Story) (way : WayRecord) (asked : Asked) (before after : List 
     (long : length after ≡ length before) (did does : List Entry) (note new : CardRecord) where
   abbrev told_by : ℤ → Told
   told_by number = record { asked = asked; before = before; after = after; number = number }
-
-  abbrev at_rest : HostView
-  at_rest = host_with (story.outcome did) begun (limits_by way)
 
   -- nothing was done
   pub untouched : (number : ℤ) → is_attempted number ≡ false → after ≡ before → does ≡ did → IsTrueOf story does
@@ -194,7 +186,7 @@ module _ (story : Story) (way : WayRecord) (asked : Asked) (before after : List 
         let unmade = refused_unmade_by answer some in
         untouched (answer_number answer) unmade (unread unmade) (from ∙ to) is (λ at noted.
         let old = at open_card in
-        let still = refused_so answer (Renoting old.how (limits_by way)) some
+        let still = refused_only answer (Renoting old.how (limits_by way)) unmade
         (subst (λ (l : Lines). IfRefused answer (Renoting old.how l)) (able so) (again so old.how old.says)) in
         rests_so (story.outcome did) _ begun (limits_by way) new (still old.stands))
     by_left answer (Ok bus) limits is open_card unread refused from to ended able was serves notes again =

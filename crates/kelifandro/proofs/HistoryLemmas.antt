@@ -78,9 +78,9 @@ module _ (info : Info) (part : Part) (start count : ℕ) (before after : List Se
   Left kind number =
       (answer : Answer) × TellsAnswer number after answer × Leaves info (request_by kind part start count before) old answer new
 
-  failed : (kind : Kind) (answer : Result Unit NotDone) → Within new (maybe_changed (change_by kind info part start count before) old)
+  failed : (kind : Kind) → Within new (maybe_changed (change_by kind info part start count before) old)
       → Within new (maybe_changed (change_of info (request_by kind part start count before)) old)
-  failed kind answer within =
+  failed kind within =
       subst (λ (change : Change). Within new (maybe_changed change old)) (sym (same_change kind info part start count before were)) within
 
   took : (kind : Kind) → TakesEffect (change_by kind info part start count before) old new
@@ -122,7 +122,7 @@ module _ (info : Info) (part : Part) (start count : ℕ) (before after : List Se
   leaves_by kind (Ok ok) unrefused within takes decided read = done kind takes decided read
   leaves_by kind (Err (RefusedFor why)) unrefused within takes decided read = absurd (unrefused why refl)
   leaves_by kind (Err (Failed cause)) unrefused within takes decided read =
-      (Gave.Failed cause, refl, failed kind (Err (Failed cause)) within)
+      (Gave.Failed cause, refl, failed kind within)
 
 -- Histories.
 

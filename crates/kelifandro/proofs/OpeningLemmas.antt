@@ -115,6 +115,12 @@ refused_then a b c first refused profile =
     let x = first.later in
     let y = refused (subst (λ (made : Made). InProfile made) (sym first.carried.made) profile) in omega (arith, x, y)
 
+-- where both failed the faults of both have fallen
+pub refused_both : (a b c : Outcome) → HasStayed a b → a.faults + 3 ≤ b.faults → (InProfile b.card.made → b.faults + 3 ≤ c.faults)
+    → InProfile a.card.made → a.faults + 6 ≤ c.faults
+refused_both a b c first fell refused profile =
+    let y = refused (subst (λ (made : Made). InProfile made) (sym first.carried.made) profile) in omega (arith, fell, y)
+
 and_false : (b : Bool) → (b && false) ≡ false
 and_false true = refl
 and_false false = refl

@@ -106,6 +106,8 @@ pub fn open_by<S: HasStory>(
     ensures opened { IsTrueOf S.story did.new.past → result ≡ pos 0 → IsOpened way.now (S.story.outcome did.new.past) card.new }
     ensures refused { IsTrueOf S.story did.new.past → InProfile (S.story.outcome did.old.past).card.made → (result ≡ pos 0 → ⊥)
         → is_unready result ≡ false → (S.story.outcome did.old.past).faults + 3 ≤ (S.story.outcome did.new.past).faults }
+    ensures again { IsTrueOf S.story did.new.past → InProfile (S.story.outcome did.old.past).card.made → (way.now.switches_power ≡ 0 → ⊥)
+        → result ≡ minus 20 → (S.story.outcome did.old.past).faults + 6 ≤ (S.story.outcome did.new.past).faults }
     ensures goes_on { way.now.by ≡ 0 → IsTrueOf S.story did.new.past
         → GoesOn S.story way.now (Opened result) did.old.past card.old did.new.past card.new }
 {

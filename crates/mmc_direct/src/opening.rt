@@ -11,9 +11,9 @@ use mmc_record::{CardRecord, note};
 use mmc_recovery::Healed;
 use mmc_switch::{InitializationFault, open_card};
 
-/// Opens the card, whatever became of it before, and notes it: no sector may hold more than before. Until it is open the record is that of no card. What is met and healed
-/// is counted from here on. What cards of its make are known to do wrong isn't used: trims of some eMMC devices, and CMD23 of some
-/// SD cards.
+/// Opens the card, whatever became of it before, and notes it: no sector may hold more than before. Until it is open the record is
+/// that of no card. What is met and healed is counted from here on. What cards of its make are known to do wrong isn't used: trims of
+/// some eMMC devices, and CMD23 of some SD cards.
 ///
 /// # Errors
 /// What the last of three rounds says; of a card in profile only where three faults fell.

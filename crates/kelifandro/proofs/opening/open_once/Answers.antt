@@ -10,12 +10,13 @@ pub returns-in-Ok-clause-stays : goal.returns-in-Ok-clause-stays
 returns-in-Ok-clause-stays g c = λ is.
     let story = g.S.HasStory.story in
     let bus = c.open_over-number.new.bus in
-    let from = λ (p : List Entry). bus_view_with (story.outcome p).card (story.outcome p).faults None (story.outcome p).conformed c.new-bus.result.wire in
-    stayed story c.args.did.now.past c.ended-does.result.1.past bus.host.diary.past bus.host.told.state bus.host.limits bus.wire
-    c.new-bus.result.wire bus.is_misused _ _
+    let wire = c.new-bus.result.wire in
+    let from = λ (p : List Entry). bus_view_with (story.outcome p).card (story.outcome p).faults None (story.outcome p).conformed wire in
+    stayed story c.args.did.now.past c.ended-does.result.1.past bus.host.diary.past bus.host.told.state bus.host.limits bus.wire wire
+    bus.is_misused _ _
     (moved_by story c.args.did.now.past c.ended-does.result.1.past bus.host.diary.past bus.host.told.state bus.host.limits bus.wire
-    c.new-bus.result.wire bus.is_misused _ _ _ (c.new-bus.ensures.view ∙ ap from c.in-Ok.ensures.past)
-    c.open_over-number.ensures.moves c.ended-does.ensures.did is)
+    wire bus.is_misused _ _ _ (c.new-bus.ensures.view ∙ ap from c.in-Ok.ensures.past) c.open_over-number.ensures.moves
+    c.ended-does.ensures.did is)
 
 pub returns-in-Ok-clause-opened : goal.returns-in-Ok-clause-opened
 returns-in-Ok-clause-opened g c = λ is zero.
