@@ -74,9 +74,21 @@ static int is_told_so(const struct kelifandro_command *command)
     return index != 18 && index != 25 ? command->blocks == 1 : card.count ? command->blocks == card.count : command->blocks > 1;
 }
 
+/* After a block that failed none is asked for until the next command. */
+static int has_failed;
+
+static int read_block(void *context, void *block, size_t length)
+{
+    expect(!has_failed, "a block after one that failed", length);
+    int what = card_host.read_block(context, block, length);
+    has_failed = what != 0;
+    return what;
+}
+
 static int send(void *context, const struct kelifandro_command *command, uint32_t response[4])
 {
     expect(is_told_so(command), "what is told of a command", command->index);
+    has_failed = 0;
     return card_host.send(context, command, response);
 }
 
@@ -87,7 +99,9 @@ static int transfer(void *context, const struct kelifandro_command *command, uin
                     struct kelifandro_moved *moved)
 {
     expect(is_told_so(command) && blocks <= command->blocks, "what is told of a command with blocks", command->index);
-    return transfer_host.transfer(context, command, response, memory, blocks < most_moved ? blocks : most_moved, moved);
+    int fault = transfer_host.transfer(context, command, response, memory, blocks < most_moved ? blocks : most_moved, moved);
+    has_failed = moved->failed != 0;
+    return fault;
 }
 
 static int blind_transfer(void *context, const struct kelifandro_command *command, uint32_t response[4], void *memory, size_t blocks,
@@ -136,6 +150,7 @@ static void begin(int is_emmc, enum way way)
     host.context = &card;
     if (!has_registers(way)) {
         host.send = host.send ? send : 0;
+        host.read_block = host.read_block ? read_block : 0;
         host.is_busy = is_busy;
         host.pause = pause_for;
         host.transfer = way == WHOLE ? blind_transfer : host.transfer ? transfer : 0;
@@ -300,9 +315,14 @@ static void lost_ways(void)
 {
     begin(0, HOST);
     kelifandro_open(&sd);
+    struct kelifandro was = sd;
+    size_t done = 1;
     sd.host = 0;
     expect(kelifandro_read(&sd, KELIFANDRO_USER, 0, 1, back) == KELIFANDRO_NO_HOST, "no host", 0);
-    sd.host = &host;
+    expect(kelifandro_read_long(&sd, KELIFANDRO_USER, 0, 1, back, &done) == KELIFANDRO_NO_HOST && done == 0, "no host, long", 0);
+    expect(kelifandro_sectors(&sd, KELIFANDRO_USER) == 0, "no host has sectors", 0);
+    kelifandro_close(&sd);
+    sd = was;
     card.state = 0;
     expect(kelifandro_read(&sd, KELIFANDRO_USER, 0, 1, back) == KELIFANDRO_DONE, "a card that has lost its power is opened again", 0);
 }
@@ -442,13 +462,13 @@ static void shown(enum way way)
     static const uint8_t scr[8] = {0x02, 0x05, 0x80, 0x02}, none[8];
     static const uint8_t cid[15] = {0x01, 'K', 'F', 'K', 'E', 'L', 'I', 'F', 0x10, 0, 0, 0, 0x01, 0x01, 0x81};
     static const uint8_t csd[15] = {0x40, 0x0e, 0, 0x32, 0x5b, 0x59, 0, 0, 0, 0x01, 0x7f, 0x80, 0x0a, 0x40, 0};
-    static uint8_t ext_csd[512];
+    static uint8_t room[513], *const ext_csd = room; /* the last byte is nobody's */
     begin(0, way);
     sd.ext_csd = ext_csd;
-    memset(ext_csd, 1, sizeof ext_csd);
+    memset(room, 1, sizeof room);
     expect(kelifandro_open(&sd) == KELIFANDRO_DONE && memcmp(sd.scr, scr, 8) == 0, "the SCR", way);
     expect(memcmp(sd.card.cid, cid, 15) == 0 && memcmp(sd.card.csd, csd, 15) == 0, "CID and CSD", way);
-    expect(ext_csd[0] == 0 && memcmp(ext_csd, ext_csd + 1, sizeof ext_csd - 1) == 0, "no EXT_CSD", way);
+    expect(ext_csd[0] == 0 && memcmp(ext_csd, ext_csd + 1, 511) == 0 && room[512] == 1, "no EXT_CSD", way);
     card.state = 0;
     expect(kelifandro_read(&sd, KELIFANDRO_USER, 0, 1, back) == KELIFANDRO_DONE && sd.was_reset == 1, "opened anew", way);
     expect(kelifandro_read(&sd, KELIFANDRO_USER, 0, 1, back) == KELIFANDRO_DONE && sd.was_reset == 1, "and it says so still", way);
@@ -461,7 +481,7 @@ static void shown(enum way way)
     memset(sd.scr, 1, 8);
     expect(kelifandro_open(&sd) == KELIFANDRO_DONE && memcmp(sd.scr, none, 8) == 0, "no SCR", way);
     expect(ext_csd[192] == 6 && ext_csd[213] == USER_SECTORS >> 8 && ext_csd[511] == 0, "the EXT_CSD", way);
-    memset(ext_csd, 0, sizeof ext_csd);
+    memset(ext_csd, 0, 512);
     memset(card.user[8], 6, 512);
     expect(kelifandro_read(&sd, KELIFANDRO_USER, 7, 2, back) == KELIFANDRO_DONE && ext_csd[192] == 0, "no sector for it", way);
 }
