@@ -1,3 +1,4 @@
+-- Headline (docs/AUDIT.md, "What to read").
 -- How the sector machine stands to what clients see of it, and which refusal comes first.
 use Rattle.std.specs.Prelude.{◌+◌, ◌∷◌, ◌≡◌, [], Err, List, None, Ok, length, map, ℕ}
 use Rattle.mmc_card.specs.Sectors.{Sets, Within}
