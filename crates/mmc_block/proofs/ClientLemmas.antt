@@ -1,5 +1,5 @@
 -- What clients see of an execution of the sector machine.
-use Rattle.std.proofs.Common.{◌++◌, ◌+◌, ◌-◌, ◌∙◌, ◌∷◌, ◌≡◌, Bool, List, None, [], ap, arith, cond, false, inl, inr}
+use Rattle.std.proofs.Common.{◌++◌, ◌+◌, ◌-◌, ◌∙◌, ◌∷◌, ◌≡◌, ◌⊎◌, Bool, List, None, [], ap, arith, cond, false, inl, inr}
 use Rattle.std.proofs.Common.{length, refl, slice_index_or, subst, sym, true, ℕ}
 use Rattle.std.specs.Prelude.{Err, Ok}
 use Rattle.mmc_card.specs.declared.part.Part.{Part}
@@ -12,20 +12,23 @@ use Rattle.mmc_queue.specs.declared.request.Request.{Request}
 use Rattle.mmc_switch.specs.declared.info.Info.{Info}
 use Rattle.mmc_block.specs.Alone.{idle}
 use Rattle.mmc_block.specs.Changes.{change_of}
-use Rattle.mmc_block.specs.ClientLaws.{ClientsSee, ClientsSeeAlone, RefusingStep, event_of, events, replies, reply_of}
+use Rattle.mmc_block.specs.ClientLaws.{ClientsSee, ClientsSeeAlone, NoneIsLost, RefusingStep, accepted_in, ended_in, event_of, events}
+use Rattle.mmc_block.specs.ClientLaws.{replies, reply_of}
 use Rattle.mmc_block.specs.Clients.{AnswerMeans, AreSteps, ClientMachine, ClientStep, GetsAnswer, IsWithout, Submits, Told}
 use Rattle.mmc_block.specs.Clients.{at_rest}
 use Rattle.mmc_block.specs.Clients.Told.{Answered, Cancelled, Submitted}
 use Rattle.mmc_block.specs.Execution.{IsExecution, Steps}
-use Rattle.mmc_block.specs.Machine.{Accepts, AreJoined, Completes, CompletesAll, Decides, HasDecided, IsAnswered, IsMerged, IsTicketOf}
+use Rattle.mmc_block.specs.Machine.{Accepts, AreJoined, IsAmong, Completes, CompletesAll, Decides, HasDecided, IsAnswered, IsMerged, IsTicketOf}
 use Rattle.mmc_block.specs.Machine.{Machine, PassesNone, StartsIfIdle, Turns, Waiting, all_failed, effect, failed_effect, opened}
+use Rattle.mmc_block.specs.MachineLaws.{accepted_by, answered_by, ended_by}
 use Rattle.mmc_block.specs.Refusal.{IsFirst, first_refusal}
 use Rattle.mmc_block.specs.declared.cancel.CancelFault.TheVariants as fault
 use Rattle.mmc_block.specs.declared.completion.Answer.{Answer}
 use Rattle.mmc_block.specs.declared.completion.Answer.TheVariants.{Data, Done, Failed}
 use Rattle.mmc_block.specs.declared.completion.Completion.{Completion}
+use Rattle.mmc_block.proofs.CancelLemmas.{ticket-left, ticket-right}
 use Rattle.mmc_block.proofs.GroupLemmas.{in_as}
-use Rattle.mmc_block.proofs.OrderLemmas.{length_pieces}
+use Rattle.mmc_block.proofs.OrderLemmas.{among_back, among_front, length_pieces}
 use Rattle.mmc_block.proofs.ServiceLemmas.{merged_length}
 
 -- Lists that are two others.
@@ -389,3 +392,93 @@ clients_see_alone info sets left next request answer served =
       taken.steps,
       (seen_of (idle left (next + 1)) turned.left, turned.steps, ap (λ ws. seen_by left (next + 1) ws) (sym none)),
     )
+
+-- No request is lost.
+
+among_either : (xs ys : List ℕ) (t : ℕ) → IsAmong (xs ++ ys) t → IsAmong xs t ⊎ IsAmong ys t
+among_either [] ys t h = inr h
+among_either (x ∷ xs) ys t (inl e) = inl (inl e)
+among_either (x ∷ xs) ys t (inr h) = elim (among_either xs ys t h) [ inl k ↦ inl (inr k) | inr k ↦ inr k ]
+
+-- who has a ticket has it without one other
+left_or_same : (t : ℕ) (before : List Waiting) (w : Waiting) (after : List Waiting) → IsTicketOf t (before ++ w ∷ after)
+    → (t ≡ w.ticket) ⊎ IsTicketOf t (before ++ after)
+left_or_same t [] w after h = h
+left_or_same t (b ∷ before) w after (inl e) = inr (inl e)
+left_or_same t (b ∷ before) w after (inr h) = elim (left_or_same t before w after h) [ inl e ↦ inl e | inr k ↦ inr (inr k) ]
+
+stays_without : (t : ℕ) (w : Waiting) (old new : List Waiting) → IsWithout w old new → IsTicketOf t old
+    → (t ≡ w.ticket) ⊎ IsTicketOf t new
+stays_without t w old new i h =
+    elim (left_or_same t i.before w i.after (subst (IsTicketOf t) i.old_is h)) [
+      | inl e ↦ inl e
+      | inr k ↦ inr (subst (IsTicketOf t) (sym i.new_is) k)
+    ]
+
+module _ (info : Info) (t : ℕ) where
+  answers_keep : (cs : List Completion) (old new : ClientMachine) → AreSteps (GetsAnswer info) old cs new
+      → IsTicketOf t old.outstanding → IsAmong (answered_by cs) t ⊎ IsTicketOf t new.outstanding
+  answers_keep [] old new same h = inr (subst (λ (m : ClientMachine). IsTicketOf t m.outstanding) (sym same) h)
+  answers_keep (c ∷ cs) old new (mid, first, rest) h =
+      elim (stays_without t first.w old.outstanding mid.outstanding first.without h) [
+        | inl e ↦ inl (inl (e ∙ sym first.ticket_is))
+        | inr k ↦ elim (answers_keep cs mid new rest k) [ inl a ↦ inl (inr a) | inr o ↦ inr o ]
+      ]
+
+  same_keeps : (old new : ClientMachine) → new ≡ old → IsTicketOf t old.outstanding → IsTicketOf t new.outstanding
+  same_keeps old new same h = subst (λ (m : ClientMachine). IsTicketOf t m.outstanding) (sym same) h
+
+  step_keeps : (call : Told) (old new : ClientMachine) → ClientStep info old call new → IsTicketOf t old.outstanding
+      → IsAmong (ended_by (event_of call) (reply_of call)) t ⊎ IsTicketOf t new.outstanding
+  step_keeps (Submitted client request (Ok ticket)) old new step h =
+      inr (subst (λ (m : ClientMachine). IsTicketOf t m.outstanding) (sym step.becomes) (ticket-left t old.outstanding _ h))
+  step_keeps (Submitted client request (Err refused)) old new step h = inr (same_keeps old new step h)
+  step_keeps (Cancelled ticket (Ok request)) old new step h =
+      elim (stays_without t step.w old.outstanding step.left step.without h) [
+        | inl e ↦ inl (inl (e ∙ step.ticket_is))
+        | inr k ↦ inr (subst (λ (m : ClientMachine). IsTicketOf t m.outstanding) (sym step.becomes) k)
+      ]
+  step_keeps (Cancelled ticket (Err fault.InService)) old new step h = inr (same_keeps old new step.1 h)
+  step_keeps (Cancelled ticket (Err fault.Unknown)) old new step h = inr (same_keeps old new step.1 h)
+  step_keeps (Answered completions) old new step h = answers_keep completions old new step h
+
+  -- what has ended in later calls has ended in all
+  later : (call : Told) (calls : List Told) (new : ClientMachine) → IsAmong (ended_in calls) t ⊎ IsTicketOf t new.outstanding
+      → IsAmong (ended_in (call ∷ calls)) t ⊎ IsTicketOf t new.outstanding
+  later call calls new (inl e) = inl (among_back (ended_by (event_of call) (reply_of call)) (ended_in calls) t e)
+  later call calls new (inr o) = inr o
+
+  steps_keep : (calls : List Told) (old new : ClientMachine) → AreSteps (ClientStep info) old calls new
+      → IsTicketOf t old.outstanding → IsAmong (ended_in calls) t ⊎ IsTicketOf t new.outstanding
+  steps_keep [] old new same h = inr (same_keeps old new same h)
+  steps_keep (call ∷ calls) old new (mid, first, rest) h =
+      elim (step_keeps call old mid first h) [
+        | inl e ↦ inl (among_front (ended_by (event_of call) (reply_of call)) (ended_in calls) t e)
+        | inr k ↦ later call calls new (steps_keep calls mid new rest k)
+      ]
+
+  -- who is accepted is without an answer
+  taken : (call : Told) (old new : ClientMachine) → ClientStep info old call new → IsAmong (accepted_by (reply_of call)) t
+      → IsTicketOf t new.outstanding
+  taken (Submitted client request (Ok ticket)) old new step (inl e) =
+      subst (λ (m : ClientMachine). IsTicketOf t m.outstanding) (sym step.becomes)
+      (ticket-right t old.outstanding _ (inl (e ∙ step.ticket_is)))
+  taken (Submitted client request (Ok ticket)) old new step (inr n) = absurd n
+  taken (Submitted client request (Err refused)) old new step h = absurd h
+  taken (Cancelled ticket (Ok request)) old new step h = absurd h
+  taken (Cancelled ticket (Err fault.InService)) old new step h = absurd h
+  taken (Cancelled ticket (Err fault.Unknown)) old new step h = absurd h
+  taken (Answered completions) old new step h = absurd h
+
+  ends_or_stays : (calls : List Told) (old new : ClientMachine) → AreSteps (ClientStep info) old calls new
+      → IsAmong (accepted_in calls) t → IsAmong (ended_in calls) t ⊎ IsTicketOf t new.outstanding
+  ends_or_stays [] old new same h = absurd h
+  ends_or_stays (call ∷ calls) old new (mid, first, rest) h =
+      elim (among_either (accepted_by (reply_of call)) (accepted_in calls) t h) [
+        | inl a ↦ later call calls new (steps_keep calls mid new rest (taken call old mid first a))
+        | inr k ↦ later call calls new (ends_or_stays calls mid new rest k)
+      ]
+
+pub none_is_lost : NoneIsLost
+none_is_lost info start next calls machine run ticket accepted =
+    ends_or_stays info ticket calls (at_rest start next) machine run accepted

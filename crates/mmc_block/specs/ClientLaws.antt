@@ -1,6 +1,6 @@
 -- Headline (docs/AUDIT.md, "What to read").
 -- How the sector machine stands to what clients see of it, and which refusal comes first.
-use Rattle.std.specs.Prelude.{◌+◌, ◌∷◌, ◌≡◌, [], Err, List, None, Ok, length, map, ℕ}
+use Rattle.std.specs.Prelude.{◌+◌, ◌++◌, ◌∷◌, ◌≡◌, ◌⊎◌, [], Err, List, None, Ok, length, map, ℕ}
 use Rattle.mmc_card.specs.Sectors.{Sets, Within}
 use Rattle.mmc_queue.specs.declared.request.Request.{Request}
 use Rattle.mmc_switch.specs.declared.info.Info.{Info}
@@ -10,7 +10,8 @@ use Rattle.mmc_block.specs.Clients.Told.{Answered, Cancelled, Submitted}
 use Rattle.mmc_block.specs.Execution.{Event, IsExecution, Reply, cancelled_reply, submitted_reply}
 use Rattle.mmc_block.specs.Execution.Event.{Cancel, Submit, Turn}
 use Rattle.mmc_block.specs.Execution.Reply.{Answers}
-use Rattle.mmc_block.specs.Machine.{IsMerged, Machine, all_failed, opened}
+use Rattle.mmc_block.specs.Machine.{IsAmong, IsMerged, IsTicketOf, Machine, all_failed, opened}
+use Rattle.mmc_block.specs.MachineLaws.{accepted_by, ended_by}
 use Rattle.mmc_block.specs.Refusal.{IsFirst, first_refusal}
 use Rattle.mmc_block.specs.declared.completion.Answer.{Answer}
 
@@ -70,3 +71,20 @@ ClientsSeeAlone =
     → AreSteps (ClientStep info) (at_rest sets next)
     (Submitted 0 request (Ok next) ∷ Answered (record { ticket = next; client = 0; answer = answer } ∷ []) ∷ [])
     (at_rest left (next + 1))
+
+-- the tickets that these calls accepted
+abbrev pub accepted_in : List Told → List ℕ
+accepted_in [] = []
+accepted_in (call ∷ calls) = accepted_by (reply_of call) ++ accepted_in calls
+
+-- and those that they ended, by an answer or by giving the request back
+abbrev pub ended_in : List Told → List ℕ
+ended_in [] = []
+ended_in (call ∷ calls) = ended_by (event_of call) (reply_of call) ++ ended_in calls
+
+-- No request is lost: each that was accepted has ended, or is without an answer.
+abbrev pub NoneIsLost : Type 0
+NoneIsLost =
+    (info : Info) (start : Sets) (next : ℕ) (calls : List Told) (machine : ClientMachine)
+    → AreSteps (ClientStep info) (at_rest start next) calls machine
+    → (ticket : ℕ) → IsAmong (accepted_in calls) ticket → IsAmong (ended_in calls) ticket ⊎ IsTicketOf ticket machine.outstanding

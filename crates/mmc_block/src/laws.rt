@@ -10,7 +10,7 @@ ghost use Rattle.mmc_block.specs.Answers.{any_failed, failures, is_failed};
 ghost use Rattle.mmc_block.specs.Machine.{Completes, Decides, Machine, Turns};
 ghost use Rattle.mmc_block.specs.MachineLaws.{EachOnce, KeepsValues};
 ghost use Rattle.mmc_block.specs.Changes.{change_of};
-ghost use Rattle.mmc_block.specs.ClientLaws.{ClientsSee, ClientsSeeAlone};
+ghost use Rattle.mmc_block.specs.ClientLaws.{ClientsSee, ClientsSeeAlone, NoneIsLost};
 ghost use Rattle.mmc_queue.specs.Group.{IsJoined};
 ghost use Rattle.mmc_queue.specs.declared.group.Group.{Group};
 ghost use Rattle.mmc_block.specs.Entries.{waits_of};
@@ -105,6 +105,11 @@ pub fn clients_see_no_groups()
 /// The same of a request that is served on a card at which nothing waits: clients see a submission and a turn with its answer.
 pub fn clients_see_a_request_alone()
     ensures { ClientsSeeAlone }
+{}
+
+/// As clients see it no request is lost: each that was accepted is answered or given back, or is one of those without an answer.
+pub fn no_request_is_lost()
+    ensures { NoneIsLost }
 {}
 
 /// Each sector of a card at rest is decided: no write or erase is unfinished.
