@@ -33,6 +33,19 @@ host_over view state limits =
       is_kept = view.is_kept;
     }
 
+-- it was told lines and clock so
+abbrev pub told_so : HostState → Ios → HostState
+told_so state told = record state { ios = told }
+
+-- lines as they are set, and the clock of data
+abbrev pub ios_in : ControllerView → Ios
+ios_in view =
+    record {
+      width = (lines_in view.settings.control).width;
+      timing = (lines_in view.settings.control).timing;
+      is_identifying = false;
+    }
+
 -- nothing has happened
 abbrev pub StaysHost : HostView → HostView → Type 0
 StaysHost old new = Where new ((old.is_kept ≡ true) × (new ≡ old))

@@ -5,7 +5,7 @@ ghost use Rattle.mmc_sdhci.specs.Controller.{IsAtMost, Settled, has_data, limits
 ghost use Rattle.mmc_sdhci.specs.Accesses.{IsAtRest, Stays};
 ghost use Rattle.mmc_sdhci.specs.Beside.{is_inserted, is_protected};
 ghost use Rattle.mmc_sdhci.specs.Commands.{IsSet};
-ghost use Rattle.mmc_sdhci.specs.Driver.{IsBaseClock, IsLost, IsNew, IsReady, IsSameCard, IsUnready, are_words, clock_limit, host_over};
+ghost use Rattle.mmc_sdhci.specs.Driver.{IsBaseClock, IsLost, IsNew, IsReady, IsSameCard, IsUnready, are_words, clock_limit, host_over, told_so};
 ghost use Rattle.mmc_host.specs.declared.data.Data.TheVariants.{Nothing};
 ghost use Rattle.mmc_sdhci.specs.declared.start.StartFault.TheVariants.{NoBaseClock};
 ghost use Rattle.mmc_sdhci.specs.Finishing.{AreCapabilities};
@@ -22,16 +22,32 @@ use crate::offsets::{CAPABILITIES, CONTROL, POWER, PRESENT, VERSION};
 use crate::registers::Registers;
 use crate::settling::pause;
 use crate::start::{StartFault, control_of, has_card, limits_of, power_up, start_anew};
+use ghost_diary::{Noted, Seen};
 use mmc_bus::{Blocks, BlocksMut, Moved};
 use mmc_card::{DataIn, DataOut, Lines, Width};
 use mmc_host::{Data, Heard, Host, HostCommand, HostState, Ios, ResponseFault, Work};
+
+// Lines and clock as they are set, of which only proofs know.
+#[derive(Drop)]
+struct AsSet<'a, R> {
+    registers: &'a R,
+}
+
+impl<R: Registers> Noted<Ios> for AsSet<'_, R> {
+    ghost use Rattle.mmc_sdhci.specs.Driver.{ios_in};
+
+    ghost says = { λ set. ios_in (R.view set.registers.now) };
+}
 
 /// A driver of an SD host controller.
 #[derive(Drop)]
 pub struct Sdhci<R: Registers> {
     pub(crate) registers: R,
-    // what it was told so far
+    // what it was told so far; its lines and clock only once this driver has set them
     pub(crate) state: HostState,
+    pub(crate) is_set: bool,
+    // and what these are, which only proofs see
+    pub(crate) told: Seen<Ios>,
     limits: Lines,
     // in MHz
     base: u32,
@@ -40,9 +56,10 @@ pub struct Sdhci<R: Registers> {
     ghost rest: { IsAtRest (R.view registers) },
     ghost transfer: { WhereKept (R.view registers) ((R.view registers).transfer ≡ state.transfer) },
     ghost words: { are_words state.transfer ≡ true },
-    ghost lines: { WhereKept (R.view registers) (lines_in (R.view registers).settings.control ≡ lines_of state.ios) },
+    ghost lines: { WhereKept (R.view registers) (lines_in (R.view registers).settings.control ≡ lines_of told) },
     ghost most: { WhereKept (R.view registers) (limits_of (R.view registers).built ≡ limits) },
-    ghost clock: { WhereKept (R.view registers) (IsAtMost (clock_limit state.ios) (R.view registers)) },
+    ghost clock: { WhereKept (R.view registers) (is_set ≡ true → IsAtMost (clock_limit told) (R.view registers)) },
+    ghost known: { is_set ≡ true → state.ios ≡ told },
     ghost set: { IsSet (R.view registers) },
     ghost base_clock: { IsBaseClock base version (R.view registers) },
     ghost small: { base < 256 },
@@ -70,7 +87,7 @@ impl<R: Registers> Sdhci<R> {
             (IsSameCard (R.view registers) (R.view host.registers)) (R.view host.registers)) }
         ensures limits { IfOk result (λ host. WhereKept (R.view host.registers)
             (host.limits ≡ limits_of (R.view host.registers).built)) }
-        ensures unused { IfOk result (λ host. IsUnused (host_over (R.view host.registers) host.state host.limits)) }
+        ensures unused { IfOk result (λ host. IsUnused (host_over (R.view host.registers) (told_so host.state host.told) host.limits)) }
         ensures unready { IfErr result (λ failed. IsUnready failed.1 (R.view failed.0)) }
         ensures unused_again { IfErr result (λ failed. IsNew (R.view failed.0)) }
         ensures left { IfErr result (λ failed. Settled (R.view registers)
@@ -94,9 +111,12 @@ impl<R: Registers> Sdhci<R> {
         registers.write8(CONTROL, 0);
         set_clock(&mut registers, base, version, IDENTIFICATION);
         power_up(&mut registers, base, version);
+        let state = HostState::new();
         Ok(Sdhci {
             registers,
-            state: HostState::new(),
+            told: Seen::of(&state.ios),
+            state,
+            is_set: true,
             limits: limits_of(capabilities, wired),
             base,
             version,
@@ -104,8 +124,8 @@ impl<R: Registers> Sdhci<R> {
         })
     }
 
-    /// Goes on with a controller that is between two commands to a card that is selected, as a driver left it that is there no more. Lines
-    /// and clock are set anew: these lines, as far as there are so many.
+    /// Goes on with a controller that is between two commands to a card that is selected, on these lines, as a driver left it that is
+    /// there no more. Nothing is set: whoever goes on sets lines and clock first.
     ///
     /// # Errors
     /// `NoBaseClock` as of `new`. The registers are given back.
@@ -116,7 +136,7 @@ impl<R: Registers> Sdhci<R> {
             (IsSameCard (R.view registers) (R.view host.registers)) (R.view host.registers)) }
         ensures limits { IfOk result (λ host. WhereKept (R.view host.registers)
             (host.limits ≡ limits_of (R.view host.registers).built)) }
-        ensures between { IfOk result (λ host. IsBetween host.state) }
+        ensures between { IfOk result (λ host. IsBetween (told_so host.state host.told)) }
         ensures fault { IfErr result (λ failed. failed.1 ≡ NoBaseClock) }
         ensures unready { IfErr result (λ failed. IsUnready failed.1 (R.view failed.0)) }
         ensures stays { IfErr result (λ failed. Stays (R.view registers) (R.view failed.0)) }
@@ -128,16 +148,14 @@ impl<R: Registers> Sdhci<R> {
         if base == 0 {
             return Err((registers, StartFault::NoBaseClock));
         }
-        let limits = limits_of(capabilities, wired);
-        let state = HostState::resting(Lines {
-            width: lines.width.fewer(limits.width),
-            timing: lines.timing.slower(limits.timing),
-        });
-        set_lines(&mut registers, base, version, state.ios);
         Ok(Sdhci {
+            told: Seen::of(&AsSet {
+                registers: &registers,
+            }),
             registers,
-            state,
-            limits,
+            state: HostState::resting(lines),
+            is_set: false,
+            limits: limits_of(capabilities, wired),
             base,
             version,
             capabilities,
@@ -180,8 +198,8 @@ impl<R: Registers> Sdhci<R> {
     /// Whether a card is inserted now, by Present State. The card isn't asked.
     pub fn has_card(&mut self) -> bool
         ensures card { WhereKept (R.view self.new.registers) (result ≡ is_inserted (R.beside self.new.registers).present) }
-        ensures rests { Rests (host_over (R.view self.old.registers) self.old.state self.old.limits)
-            (host_over (R.view self.new.registers) self.new.state self.new.limits) }
+        ensures rests { Rests (host_over (R.view self.old.registers) (told_so self.old.state self.old.told) self.old.limits)
+            (host_over (R.view self.new.registers) (told_so self.new.state self.new.told) self.new.limits) }
     {
         has_card(&mut self.registers)
     }
@@ -190,8 +208,8 @@ impl<R: Registers> Sdhci<R> {
     /// it.
     pub fn is_write_protected(&mut self) -> bool
         ensures protected { WhereKept (R.view self.new.registers) (result ≡ is_protected (R.beside self.new.registers).present) }
-        ensures rests { Rests (host_over (R.view self.old.registers) self.old.state self.old.limits)
-            (host_over (R.view self.new.registers) self.new.state self.new.limits) }
+        ensures rests { Rests (host_over (R.view self.old.registers) (told_so self.old.state self.old.told) self.old.limits)
+            (host_over (R.view self.new.registers) (told_so self.new.state self.new.told) self.new.limits) }
     {
         self.registers.read32(PRESENT) / 0x8_0000 % 2 == 0
     }
@@ -205,7 +223,7 @@ impl<R: Registers> Sdhci<R> {
 }
 
 impl<R: Registers> Host for Sdhci<R> {
-    ghost view = { λ s. host_over (R.view s.registers) s.state s.limits };
+    ghost view = { λ s. host_over (R.view s.registers) (told_so s.state s.told) s.limits };
 
     // What the registers were told binds where they are kept.
     ghost has_told = { λ _ _. Unit {0} };
@@ -214,13 +232,11 @@ impl<R: Registers> Host for Sdhci<R> {
         self.limits
     }
 
-    // What is set already isn't set anew.
     fn set_ios(&mut self, ios: Ios) {
-        if ios == self.state.ios {
-            return;
-        }
         set_lines(&mut self.registers, self.base, self.version, ios);
         self.state.ios = ios;
+        self.told = Seen::of(&ios);
+        self.is_set = true;
     }
 
     fn send(&mut self, command: HostCommand) -> Result<Heard, ResponseFault> {
