@@ -186,12 +186,11 @@ fn version(
     }
 }
 
-/// The archiver of the same tools, or LLVM's, where that is installed alone.
+/// The archiver of the same tools, or another that is there: rustc makes the index of an archive itself.
 fn archiver(prefix: &str) -> String {
     let own = format!("{prefix}ar");
     let is_there = |name: &str| Command::new(name).arg("--version").output().is_ok();
-    if !is_there(&own) && is_there("llvm-ar") {
-        return "llvm-ar".to_string();
-    }
-    own
+    let others = ["llvm-ar", "ar"].map(str::to_string);
+    let all = [own.clone()].into_iter().chain(others);
+    all.into_iter().find(|name| is_there(name)).unwrap_or(own)
 }

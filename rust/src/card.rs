@@ -72,7 +72,7 @@ impl<'t, R: Dma> SdCard<ByDma<'t, R>> {
     /// `table` is memory for a table that ADMA2 wants, which is lent by [`Dma::lend`] too: 8 bytes for each 64 sectors of a request, or
     /// 12 where the request's memory lies beyond 32 bits; 8,192 serve each request there. Where it is shorter than a request wants,
     /// that goes through the Buffer Data Port; [`read_long`](SdCard::read_long) makes parts that fit.
-    pub const fn over_dma(registers: R, table: &'t mut [u8]) -> SdCard<ByDma<'t, R>> {
+    pub fn over_dma(registers: R, table: &'t mut [u8]) -> SdCard<ByDma<'t, R>> {
         SdCard {
             way: ByDma { registers, table },
             raw: Raw::new(),

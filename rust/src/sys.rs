@@ -37,10 +37,10 @@ struct CMoved {
     failed: u8,
 }
 
-type Send = unsafe extern "C" fn(*mut c_void, *const CCommand, *mut u32) -> c_int;
-type ReadBlock = unsafe extern "C" fn(*mut c_void, *mut c_void, usize) -> c_int;
-type WriteBlock = unsafe extern "C" fn(*mut c_void, *const c_void) -> c_int;
-type Transfer = unsafe extern "C" fn(
+type SendFn = unsafe extern "C" fn(*mut c_void, *const CCommand, *mut u32) -> c_int;
+type ReadBlockFn = unsafe extern "C" fn(*mut c_void, *mut c_void, usize) -> c_int;
+type WriteBlockFn = unsafe extern "C" fn(*mut c_void, *const c_void) -> c_int;
+type TransferFn = unsafe extern "C" fn(
     *mut c_void,
     *const CCommand,
     *mut u32,
@@ -48,23 +48,23 @@ type Transfer = unsafe extern "C" fn(
     usize,
     *mut CMoved,
 ) -> c_int;
-type Switch = unsafe extern "C" fn(*mut c_void) -> c_int;
+type SwitchFn = unsafe extern "C" fn(*mut c_void) -> c_int;
 
 #[repr(C)]
 pub struct CHost {
     context: *mut c_void,
     lines: u8,
     high_speed: u8,
-    send: Option<Send>,
-    read_block: Option<ReadBlock>,
-    write_block: Option<WriteBlock>,
+    send: Option<SendFn>,
+    read_block: Option<ReadBlockFn>,
+    write_block: Option<WriteBlockFn>,
     is_busy: Option<unsafe extern "C" fn(*mut c_void, u32) -> c_int>,
     set_ios: Option<unsafe extern "C" fn(*mut c_void, c_int, c_int, u32)>,
     pause: Option<unsafe extern "C" fn(*mut c_void, u32)>,
-    transfer: Option<Transfer>,
+    transfer: Option<TransferFn>,
     set_power: Option<unsafe extern "C" fn(*mut c_void, c_int)>,
-    is_inserted: Option<Switch>,
-    is_write_protected: Option<Switch>,
+    is_inserted: Option<SwitchFn>,
+    is_write_protected: Option<SwitchFn>,
 }
 
 #[repr(C)]
@@ -203,7 +203,7 @@ pub(crate) struct Raw(CKelifandro);
 
 // SAFETY: no pointer in it leads to anything but NOBODY between two calls, and during a call it is borrowed. C keeps nothing elsewhere
 // (kelifandro.h: "All that it keeps is in struct kelifandro"), in no thread either, so it doesn't matter which thread the next call is of.
-unsafe impl core::marker::Send for Raw {}
+unsafe impl Send for Raw {}
 
 impl Raw {
     /// A card that isn't open.
@@ -464,13 +464,13 @@ fn host_of<H: Host>(host: &mut H) -> CHost {
         context: ptr::from_mut(host).cast(),
         lines: abilities.lines.count(),
         high_speed: abilities.high_speed.into(),
-        send: moves_blocks.then_some(send::<H> as Send),
-        read_block: moves_blocks.then_some(read_block::<H> as ReadBlock),
-        write_block: moves_blocks.then_some(write_block::<H> as WriteBlock),
+        send: moves_blocks.then_some(send::<H> as SendFn),
+        read_block: moves_blocks.then_some(read_block::<H> as ReadBlockFn),
+        write_block: moves_blocks.then_some(write_block::<H> as WriteBlockFn),
         is_busy: Some(is_busy::<H>),
         set_ios: Some(set_ios::<H>),
         pause: Some(pause::<H>),
-        transfer: (abilities.transfers != Transfers::None).then_some(transfer::<H> as Transfer),
+        transfer: (abilities.transfers != Transfers::None).then_some(transfer::<H> as TransferFn),
         set_power: abilities.switches_power.then_some(set_power::<H> as _),
         is_inserted: Some(is_inserted::<H>),
         is_write_protected: None, // nobody but the caller asks for it, and `Sealed` answers
