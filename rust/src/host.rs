@@ -207,6 +207,46 @@ pub struct Ios {
 /// of bounds. What is written and read is right where they keep to what stands at each of them. A function that panics doesn't unwind
 /// through the library: the program is aborted.
 ///
+/// # Examples
+/// A host of which no response is heard:
+/// ```
+/// use kelifandro::{Abilities, BlockFault, Command, Error, Fault, Host, Ios, Lines, Response, SdCard};
+///
+/// struct Port; // the addresses of a controller of yours
+///
+/// impl Host for Port {
+///     fn abilities(&self) -> Abilities {
+///         Abilities::new(Lines::Four).with_high_speed()
+///     }
+///
+///     fn send(&mut self, command: &Command) -> Result<Response, Fault> {
+///         let _ = (command.index, command.argument, command.response, command.data, command.blocks);
+///         Err(Fault::Timeout)
+///     }
+///
+///     fn read_block(&mut self, block: &mut [u8]) -> Result<(), BlockFault> {
+///         block.fill(0);
+///         Err(BlockFault::Missing)
+///     }
+///
+///     fn write_block(&mut self, _block: &[u8; 512]) -> Result<(), BlockFault> {
+///         Err(BlockFault::Missing)
+///     }
+///
+///     fn is_busy(&mut self, _microseconds: u32) -> bool {
+///         false
+///     }
+///
+///     fn set_ios(&mut self, ios: Ios) {
+///         let _ = (ios.lines, ios.high_speed, ios.hertz);
+///     }
+///
+///     fn pause(&mut self, _microseconds: u32) {}
+/// }
+///
+/// assert_eq!(SdCard::new(Port).open(), Err(Error::NoCard));
+/// ```
+///
 /// A controller that moves all blocks of a command by one call, as one with DMA, is better a
 /// [`TransferHost`](crate::TransferHost), and an SD host controller is given by its [`Registers`](crate::Registers).
 pub trait Host {

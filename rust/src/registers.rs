@@ -77,8 +77,53 @@ impl Board {
 /// The registers of an SD host controller (SD Host Controller Simplified Specification 3.00, section 2.2), whose driver is in the
 /// library; [`SdCard::over_registers`](crate::SdCard::over_registers) takes them.
 ///
-/// Accesses lie in one word of 4 bytes, and reach the controller in order. Without [`Dma`] the library never gives the controller an
-/// address.
+/// Accesses lie in one word of 4 bytes, and reach the controller in order. Without [`Dma`](crate::Dma) the library never gives the
+/// controller an address.
+///
+/// # Examples
+/// ```no_run
+/// use kelifandro::{Board, Registers, SdCard, Size};
+///
+/// /// A controller at an address of yours.
+/// struct Mapped(*mut u8);
+///
+/// impl Registers for Mapped {
+///     fn read(&mut self, offset: u32, size: Size) -> u32 {
+///         let at = self.0.wrapping_add(offset as usize);
+///         // SAFETY: the controller's registers are there, and nobody else drives it
+///         unsafe {
+///             match size {
+///                 Size::Byte => at.read_volatile().into(),
+///                 Size::Word => at.cast::<u32>().read_volatile(),
+///             }
+///         }
+///     }
+///
+///     fn write(&mut self, offset: u32, size: Size, value: u32) {
+///         let at = self.0.wrapping_add(offset as usize);
+///         // SAFETY: as of a read
+///         unsafe {
+///             match size {
+///                 Size::Byte => at.write_volatile(value as u8),
+///                 Size::Word => at.cast::<u32>().write_volatile(value),
+///             }
+///         }
+///     }
+///
+///     fn pause(&mut self, microseconds: u32) {
+///         for _ in 0..100 * microseconds {
+///             core::hint::spin_loop(); // a timer of yours
+///         }
+///     }
+///
+///     fn board(&self) -> Board {
+///         Board::new().with_card_there() // an eMMC device that is soldered
+///     }
+/// }
+///
+/// SdCard::over_registers(Mapped(0x4000_0000 as *mut u8)).open()?;
+/// # Ok::<(), kelifandro::Error>(())
+/// ```
 pub trait Registers {
     /// Reads a register at this offset in bytes.
     fn read(&mut self, offset: u32, size: Size) -> u32;

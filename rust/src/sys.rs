@@ -784,8 +784,34 @@ unsafe extern "C" fn take_back<R: Dma>(
 /// - the address leads the controller to just the bytes that are lent, or to a buffer of the implementation's own that is as long and
 ///   that nobody else uses until it is taken back;
 /// - the registers are those of this controller, and nobody else drives it;
-/// - both functions are barriers, of the compiler and of the processor: nothing else tells either that a controller reads and writes
-///   memory.
+/// - both functions are barriers, of the compiler and of the processor (of Arm's by `dsb`): nothing else tells either that a controller
+///   reads and writes memory.
+///
+/// # Examples
+/// Of a processor whose memory the controller sees at the same addresses, without caches:
+/// ```
+/// use std::sync::atomic::{Ordering, fence};
+/// use kelifandro::{BusAddress, Dma, Registers, Size};
+/// # struct Mapped;
+/// # impl Registers for Mapped {
+/// #     fn read(&mut self, _: u32, _: Size) -> u32 { 0 }
+/// #     fn write(&mut self, _: u32, _: Size, _: u32) {}
+/// #     fn pause(&mut self, _: u32) {}
+/// # }
+///
+/// // SAFETY: the controller and the processor have the same addresses, there is no cache, and both functions are barriers.
+/// unsafe impl Dma for Mapped {
+///     unsafe fn lend(&mut self, bytes: *mut u8, _length: usize, _is_written: bool) -> Option<BusAddress> {
+///         fence(Ordering::SeqCst);
+///         let address = bytes as usize as u64;
+///         if address % 4 == 0 { BusAddress::new(address) } else { None }
+///     }
+///
+///     unsafe fn take_back(&mut self, _bytes: *mut u8, _length: usize, _is_written: bool) {
+///         fence(Ordering::SeqCst);
+///     }
+/// }
+/// ```
 pub unsafe trait Dma: Registers {
     /// The controller is to read from these bytes or, where `is_written`, to write to them. Writes back what caches hold of them, and
     /// drops it where they are written to. The memory is a request's sectors, of any alignment, or the table.

@@ -7,6 +7,39 @@ use crate::host::{
 /// A host controller that moves all blocks of a command by one call, as one with DMA does: four functions beside what it can.
 ///
 /// The rules are those of [`Host`], of which each function here is the one with the same name.
+///
+/// # Examples
+/// A host of which no response is heard:
+/// ```
+/// use kelifandro::{Abilities, Blocks, Command, Error, Fault, Ios, Lines, Moved, Response, SdCard, TransferHost};
+///
+/// struct Port; // the addresses of a controller of yours
+///
+/// impl TransferHost for Port {
+///     fn abilities(&self) -> Abilities {
+///         Abilities::new(Lines::Four)
+///     }
+///
+///     fn transfer(&mut self, _command: &Command, blocks: Blocks<'_>) -> Result<(Response, Moved), Fault> {
+///         match blocks {
+///             Blocks::None => {}
+///             Blocks::Read(bytes) => bytes.fill(0),
+///             Blocks::Write(bytes) => assert_eq!(bytes.len() % 512, 0),
+///         }
+///         Err(Fault::Timeout)
+///     }
+///
+///     fn is_busy(&mut self, _microseconds: u32) -> bool {
+///         false
+///     }
+///
+///     fn set_ios(&mut self, _ios: Ios) {}
+///
+///     fn pause(&mut self, _microseconds: u32) {}
+/// }
+///
+/// assert_eq!(SdCard::by_transfer(Port).open(), Err(Error::NoCard));
+/// ```
 pub trait TransferHost {
     /// What the controller can; that it moves all blocks needn't be said.
     fn abilities(&self) -> Abilities;
