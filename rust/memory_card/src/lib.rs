@@ -11,11 +11,14 @@
 //! # Ok::<(), kelifandro::Error>(())
 //! ```
 
+#![no_std]
 #![deny(missing_docs, unsafe_op_in_unsafe_fn)]
+
+extern crate alloc;
 
 mod sys;
 
-use std::fmt;
+use core::fmt;
 
 use kelifandro::{
     Abilities, BlockFault, Blocks, BusAddress, Command, DataKind, Dma, Fault, Host, Ios, Lines,

@@ -1,6 +1,9 @@
 //! The calls to C.
 
-use std::ffi::{c_int, c_void};
+use core::ffi::{c_int, c_void};
+
+use alloc::boxed::Box;
+use alloc::vec;
 
 use kelifandro::{Command, Ios, Partition, Size};
 
