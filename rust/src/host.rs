@@ -47,6 +47,7 @@ pub enum Transfers {
 
 /// What a host controller can, and which of the functions that may be left out it has.
 #[derive(Clone, Copy, Debug, PartialEq, Eq, Hash)]
+#[must_use]
 pub struct Abilities {
     pub(crate) lines: Lines,
     pub(crate) high_speed: bool,

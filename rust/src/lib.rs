@@ -43,7 +43,12 @@
 //! - `embedded-sdmmc`: block devices of the shape that the crate of this name has (`block_device`).
 
 #![no_std]
-#![deny(missing_docs, unsafe_code, unsafe_op_in_unsafe_fn)]
+#![deny(
+    missing_docs,
+    unsafe_code,
+    unsafe_op_in_unsafe_fn,
+    clippy::undocumented_unsafe_blocks
+)]
 
 mod card;
 mod error;

@@ -18,6 +18,7 @@ pub enum Size {
 
 /// What a board knows in place of its controller; by default all is as the registers say.
 #[derive(Clone, Copy, Debug, PartialEq, Eq, Hash, Default)]
+#[must_use]
 pub struct Board {
     pub(crate) one_line: bool,
     pub(crate) is_there: bool,
