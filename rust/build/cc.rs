@@ -76,38 +76,30 @@ impl Compiler {
             return Err(format!("{target} keeps the highest byte of a number first, which the library doesn't serve"));
         }
         let named = words_of("CC", &target);
-        let known = known(&target);
-        let (Some(row), is_named) = (
-            known.or(named.is_some().then_some(&targets::OWN)),
-            named.is_some(),
-        ) else {
-            return Err(format!(
-                "no C compiler is known for {target}: name one by CC_{}",
-                target.replace(['-', '.'], "_")
-            ));
-        };
-        let is_own = target == variable("HOST");
-        let default = if is_own {
-            "cc".to_string()
+        let is_named = named.is_some();
+        let row = known(&target)
+            .or(is_named.then_some(&targets::OWN))
+            .ok_or_else(|| {
+                let plain = target.replace(['-', '.'], "_");
+                format!("no C compiler is known for {target}: name one by CC_{plain}")
+            })?;
+        let prefix = if target == variable("HOST") {
+            ""
         } else {
-            format!("{}gcc", row.prefix)
+            row.prefix
         };
-        let compiler = named.unwrap_or_else(|| vec![default]);
+        let compiler = named.unwrap_or_else(|| {
+            vec![format!(
+                "{prefix}{}",
+                if prefix.is_empty() { "cc" } else { "gcc" }
+            )]
+        });
         let is_gnu = !version(&compiler, &target, row, is_named)?.contains("clang");
-        let mut flags: Vec<String> = words(targets::EACH);
-        flags.extend(words(if is_gnu { targets::GNU } else { "" }));
-        flags.extend(
-            words(row.flags)
-                .into_iter()
-                .filter(|flag| is_gnu || !is_gnus(flag)),
-        );
-        flags.extend(words_of("CFLAGS", &target).unwrap_or_default());
-        let archiver = words_of("AR", &target)
-            .unwrap_or_else(|| vec![archiver(if is_own { "" } else { row.prefix })]);
+        let archiver = words_of("AR", &target).unwrap_or_else(|| vec![archiver(prefix)]);
         Ok(Compiler {
             compiler,
             archiver,
-            flags,
+            flags: flags(row, is_gnu, &target),
         })
     }
 
@@ -147,6 +139,19 @@ impl Compiler {
 
 fn words(flags: &str) -> Vec<String> {
     flags.split_whitespace().map(str::to_string).collect()
+}
+
+/// The flags of a row, and after them those of the environment.
+fn flags(row: &Target, is_gnu: bool, target: &str) -> Vec<String> {
+    let mut flags = words(targets::EACH);
+    flags.extend(words(if is_gnu { targets::GNU } else { "" }));
+    flags.extend(
+        words(row.flags)
+            .into_iter()
+            .filter(|flag| is_gnu || !is_gnus(flag)),
+    );
+    flags.extend(words_of("CFLAGS", target).unwrap_or_default());
+    flags
 }
 
 /// Flags of a processor's row that tune GCC.

@@ -136,6 +136,44 @@ pub struct CKelifandro {
     call: CCall,
 }
 
+impl CCard {
+    const NONE: CCard = CCard {
+        state: 0,
+        kind: 0,
+        addressing: 0,
+        selected: 0,
+        partition_config: 0,
+        lines: 0,
+        high_speed: 0,
+        read_only: 0,
+        trims: 0,
+        cmd23: 0,
+        erased_byte: 0,
+        cause: 0,
+        rca: 0,
+        cid: [0; 16],
+        csd: [0; 16],
+        unused: [0; 2],
+        user: 0,
+        boot: 0,
+        gp: [0; 4],
+        erase_unit: 0,
+    };
+}
+
+impl CCall {
+    const NONE: CCall = CCall {
+        resets: 0,
+        came: 0,
+        next: 0,
+        memory: ptr::null_mut(),
+        table_length: 0,
+        kept: 0,
+        answer: [0; 6],
+        block: [0; BLOCK],
+    };
+}
+
 extern "C" {
     fn kelifandro_open(kelifandro: *mut CKelifandro) -> i32;
     fn kelifandro_close(kelifandro: *mut CKelifandro);
@@ -208,47 +246,15 @@ unsafe impl Send for Raw {}
 impl Raw {
     /// A card that isn't open.
     pub(crate) const fn new() -> Raw {
-        let card = CCard {
-            state: 0,
-            kind: 0,
-            addressing: 0,
-            selected: 0,
-            partition_config: 0,
-            lines: 0,
-            high_speed: 0,
-            read_only: 0,
-            trims: 0,
-            cmd23: 0,
-            erased_byte: 0,
-            cause: 0,
-            rca: 0,
-            cid: [0; 16],
-            csd: [0; 16],
-            unused: [0; 2],
-            user: 0,
-            boot: 0,
-            gp: [0; 4],
-            erase_unit: 0,
-        };
-        let call = CCall {
-            resets: 0,
-            came: 0,
-            next: 0,
-            memory: ptr::null_mut(),
-            table_length: 0,
-            kept: 0,
-            answer: [0; 6],
-            block: [0; BLOCK],
-        };
         Raw(CKelifandro {
             host: ptr::null(),
             registers: ptr::null(),
-            card,
+            card: CCard::NONE,
             healed: Healed::NONE,
             scr: [0; 8],
             ext_csd: ptr::null_mut(),
             was_reset: 0,
-            call,
+            call: CCall::NONE,
         })
     }
 

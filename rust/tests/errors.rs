@@ -8,7 +8,8 @@ use kelifandro::{
     Partition, Response, SdCard, TransferHost,
 };
 
-fn refusals<W: HasCard>(mut card: SdCard<W>) {
+/// A card that isn't open, before and after.
+fn is_closed<W: HasCard>(card: &mut SdCard<W>) {
     let mut block = [[0; 512]; 2];
     assert_eq!(
         card.read(Partition::User, 0, &mut block),
@@ -16,8 +17,10 @@ fn refusals<W: HasCard>(mut card: SdCard<W>) {
     );
     assert_eq!(card.write(Partition::Boot1, 0, &block), Err(Error::NotOpen));
     assert_eq!((card.info(), card.sectors(Partition::User)), (None, 0));
-    card.open().expect("open");
-    let before = card.way().card().answers();
+}
+
+fn refuses_ranges<W: HasCard>(card: &mut SdCard<W>) {
+    let mut block = [[0; 512]; 2];
     assert_eq!(
         card.read(Partition::Boot1, 0, &mut block),
         Err(Error::NoPartition)
@@ -39,6 +42,18 @@ fn refusals<W: HasCard>(mut card: SdCard<W>) {
         card.write(Partition::User, 2048, &block[..1]),
         Err(Error::OutOfRange)
     );
+    assert_eq!(
+        card.erase(Partition::User, 0, (1 << 32) + 1),
+        Err(Error::OutOfRange)
+    );
+    let long = LongError {
+        error: Error::OutOfRange,
+        done: 0,
+    };
+    assert_eq!(card.write_long(Partition::User, 2047, &block), Err(long));
+}
+
+fn refuses_counts<W: HasCard>(card: &mut SdCard<W>) {
     assert_eq!(card.write(Partition::User, 0, &[]), Err(Error::Count));
     assert_eq!(card.read(Partition::User, 0, &mut []), Err(Error::Count));
     assert_eq!(
@@ -46,28 +61,23 @@ fn refusals<W: HasCard>(mut card: SdCard<W>) {
         Err(Error::Count)
     );
     assert_eq!(card.erase(Partition::User, 0, 0), Err(Error::Count));
-    assert_eq!(
-        card.erase(Partition::User, 0, (1 << 32) + 1),
-        Err(Error::OutOfRange)
-    );
     assert_eq!(card.trim(Partition::User, 0, 1), Err(Error::NotErasable));
     let long = LongError {
         error: Error::Count,
         done: 0,
     };
     assert_eq!(card.write_long(Partition::User, 0, &[]), Err(long));
-    let long = LongError {
-        error: Error::OutOfRange,
-        done: 0,
-    };
-    assert_eq!(card.write_long(Partition::User, 2047, &block), Err(long));
+}
+
+fn refusals<W: HasCard>(mut card: SdCard<W>) {
+    is_closed(&mut card);
+    card.open().expect("open");
+    let before = card.way().card().answers();
+    refuses_ranges(&mut card);
+    refuses_counts(&mut card);
     assert_eq!(card.way().card().answers(), before, "nothing is sent");
     card.close();
-    assert_eq!(
-        card.read(Partition::User, 0, &mut block),
-        Err(Error::NotOpen)
-    );
-    assert_eq!((card.info(), card.sectors(Partition::User)), (None, 0));
+    is_closed(&mut card);
 }
 
 #[test]
@@ -141,55 +151,64 @@ impl Host for Fails {
     fn pause(&mut self, _: u32) {}
 }
 
+fn failing(how: Option<How>) -> SdCard<Fails> {
+    SdCard::new(Fails {
+        card: memory_card::MemoryCard::sd(),
+        how,
+        asked: 0,
+    })
+}
+
 /// Four attempts fail, and each takes a counted number of exchanges (docs/ARCHITECTURE.md: 17 for each block and 19 more, and 158 for
-/// a settle and a select).
+/// a settle and a select); then each sector is old or new, and the next request heals.
+fn fails_for_good(how: How, errors: &[Error]) {
+    const MOST: u32 = 4 * (17 * 2 + 19 + 158);
+    let new = sectors(2, 1);
+    let mut card = failing(None);
+    card.open().expect("open");
+    card.way_mut().how = Some(how);
+    card.way_mut().asked = 0;
+    let told = card.write(Partition::User, 7, &new).expect_err("it fails");
+    assert!(errors.contains(&told), "{how:?}: {told}");
+    assert_eq!(card.healed().attempts, 4, "{how:?}");
+    assert!(
+        card.way().asked <= MOST,
+        "{how:?}: asked {} times",
+        card.way().asked
+    );
+    for (sector, block) in (7..).zip(&new) {
+        let held = card
+            .way()
+            .card
+            .sector(Partition::User, sector)
+            .expect("it is there");
+        assert!(
+            held == block || *held == [0; 512],
+            "{how:?}: neither old nor new"
+        );
+    }
+    card.way_mut().how = None;
+    card.write(Partition::User, 7, &new)
+        .expect("it is healed by the next request");
+}
+
 #[test]
 fn what_fails_for_good() {
-    const MOST: u32 = 4 * (17 * 2 + 19 + 158);
-    let cases = [
-        (How::Silent(Fault::Timeout), Error::FailedRecovery),
-        (How::Silent(Fault::BadCheck), Error::FailedRecovery),
-        (How::Silent(Fault::BadEndBit), Error::FailedRecovery),
-        (How::Silent(Fault::OtherIndex), Error::FailedRecovery),
-        (How::Blocks(BlockFault::Bad), Error::FailedData),
-        (How::Busy, Error::FailedRecovery),
-    ];
-    for (how, error) in cases {
-        let mut card = SdCard::new(Fails {
-            card: memory_card::MemoryCard::sd(),
-            how: None,
-            asked: 0,
-        });
-        card.open().expect("open");
-        card.way_mut().how = Some(how);
-        card.way_mut().asked = 0;
-        let told = card.write(Partition::User, 7, &sectors(2, 1));
-        assert!(
-            told == Err(error) || told == Err(Error::FailedRecovery),
-            "{how:?}: {told:?}"
+    for fault in [
+        Fault::Timeout,
+        Fault::BadCheck,
+        Fault::BadEndBit,
+        Fault::OtherIndex,
+    ] {
+        fails_for_good(
+            How::Silent(fault),
+            &[Error::FailedAnswer, Error::FailedRecovery],
         );
-        assert_eq!(card.healed().attempts, 4, "{how:?}");
-        assert!(
-            card.way().asked <= MOST,
-            "{how:?}: asked {} times",
-            card.way().asked
-        );
-        for sector in 7..9 {
-            let held = card
-                .way()
-                .card
-                .sector(Partition::User, sector)
-                .expect("it is there");
-            let new = sectors(2, 1)[sector as usize - 7];
-            assert!(
-                *held == new || *held == [0; 512],
-                "{how:?}: neither old nor new"
-            );
-        }
-        card.way_mut().how = None;
-        card.write(Partition::User, 7, &sectors(2, 1))
-            .expect("it is healed by the next request");
     }
+    for fault in [BlockFault::Bad, BlockFault::Missing] {
+        fails_for_good(How::Blocks(fault), &[Error::FailedData]);
+    }
+    fails_for_good(How::Busy, &[Error::FailedBusy, Error::FailedRecovery]);
 }
 
 /// No card at all: opening ends, after a counted number of exchanges.
@@ -201,11 +220,7 @@ fn no_card_answers() {
         Fault::BadEndBit,
         Fault::OtherIndex,
     ] {
-        let mut card = SdCard::new(Fails {
-            card: memory_card::MemoryCard::sd(),
-            how: Some(How::Silent(fault)),
-            asked: 0,
-        });
+        let mut card = failing(Some(How::Silent(fault)));
         assert_eq!(card.open(), Err(Error::NoCard));
         assert!(card.way().asked <= 294, "asked {} times", card.way().asked);
         assert!(card.info().is_none());

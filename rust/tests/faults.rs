@@ -3,7 +3,7 @@
 mod common;
 
 use common::{by_blocks, by_dma, by_registers, by_transfer, sectors, HasCard, ADMA2, SDMA};
-use kelifandro::{Partition, SdCard};
+use kelifandro::{Error, Partition, SdCard};
 
 const RUN: usize = 5;
 
@@ -38,35 +38,34 @@ fn holds<W: HasCard>(
         .all(|(block, at)| memory.sector(partition, at) == Some(block))
 }
 
+/// A call is done, whatever falls.
+fn done(told: Result<(), Error>, what: &str, falls: Falls) {
+    assert_eq!(told, Ok(()), "{what}, {falls:?}");
+}
+
 /// Opens, writes, reads back, erases or trims; answers how many answers the card gave.
 fn whole<W: HasCard>(mut card: SdCard<W>, is_emmc: bool, falls: Falls) -> u64 {
     let data = sectors(RUN, 0x11);
     let mut back = vec![[0; 512]; RUN];
     plan(&mut card, falls);
-    card.open()
-        .unwrap_or_else(|fault| panic!("open: {fault}, {falls:?}"));
+    done(card.open(), "open", falls);
     assert_eq!(card.sectors(Partition::User), 2048, "{falls:?}");
-    card.write(Partition::User, 7, &data)
-        .unwrap_or_else(|fault| panic!("write: {fault}, {falls:?}"));
+    done(card.write(Partition::User, 7, &data), "write", falls);
     assert!(
         holds(&card, Partition::User, 7, &data),
         "what was written, {falls:?}"
     );
-    card.read(Partition::User, 7, &mut back)
-        .unwrap_or_else(|fault| panic!("read: {fault}, {falls:?}"));
+    done(card.read(Partition::User, 7, &mut back), "read", falls);
     assert_eq!(back, data, "what was read, {falls:?}");
     if is_emmc {
-        card.write(Partition::Boot2, 3, &data[..2])
-            .unwrap_or_else(|fault| panic!("boot: {fault}, {falls:?}"));
+        done(card.write(Partition::Boot2, 3, &data[..2]), "boot 2", falls);
         assert!(
             holds(&card, Partition::Boot2, 3, &data[..2]),
             "boot 2, {falls:?}"
         );
-        card.trim(Partition::User, 8, 2)
-            .unwrap_or_else(|fault| panic!("trim: {fault}, {falls:?}"));
+        done(card.trim(Partition::User, 8, 2), "trim", falls);
     } else {
-        card.erase(Partition::User, 8, 2)
-            .unwrap_or_else(|fault| panic!("erase: {fault}, {falls:?}"));
+        done(card.erase(Partition::User, 8, 2), "erase", falls);
     }
     assert!(
         holds(&card, Partition::User, 8, &[[0; 512]; 2]),
