@@ -72,3 +72,8 @@ pub use info::{Healed, Info, Kind, Partition, Sector};
 pub use registers::{Board, BusAddress, ByDma, ByRegisters, Registers, Size, BUFFER_DATA_PORT};
 pub use sys::{Dma, Way};
 pub use transfer::{ByTransfer, TransferHost};
+
+/// The code of the README is built, too.
+#[cfg(doctest)]
+#[doc = include_str!("../README.md")]
+struct Readme;

@@ -233,6 +233,11 @@ impl MemoryController {
         self.card.0.take_out();
     }
 
+    /// The controller takes accesses of words alone, and its Capabilities read 0.
+    pub fn bare(&mut self) {
+        self.card.0.bare();
+    }
+
     /// How many blocks were moved by DMA.
     pub fn moved(&self) -> u64 {
         self.card.0.moved()

@@ -115,6 +115,12 @@ void memory_card_take_out(struct memory_card *memory)
     memory->controller.has_no_switches = 1;
 }
 
+/* The controller lacks bytes: accesses are of words alone, and Capabilities read 0. */
+void memory_card_bare(struct memory_card *memory)
+{
+    memory->controller.is_bare = 1;
+}
+
 uint64_t memory_card_moved(const struct memory_card *memory)
 {
     return memory->controller.moved;

@@ -39,6 +39,7 @@ extern "C" {
     fn memory_card_write_register(memory: Room, offset: u32, size: u32, value: u32);
     fn memory_card_lock(memory: Room, is_locked: c_int);
     fn memory_card_take_out(memory: Room);
+    fn memory_card_bare(memory: Room);
     fn memory_card_moved(memory: *const c_void) -> u64;
     fn memory_card_misuses(memory: *const c_void) -> u64;
     fn memory_card_lend(memory: Room, bytes: *mut u8, n: usize, is_written: c_int) -> u64;
@@ -206,6 +207,11 @@ impl Memory {
     pub fn take_out(&mut self) {
         // SAFETY: above
         unsafe { memory_card_take_out(self.room()) }
+    }
+
+    pub fn bare(&mut self) {
+        // SAFETY: above
+        unsafe { memory_card_bare(self.room()) }
     }
 
     pub fn moved(&self) -> u64 {
