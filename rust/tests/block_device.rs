@@ -5,7 +5,8 @@ mod common;
 
 use common::{by_blocks, by_registers};
 use kelifandro::block_device::{Block, BlockCount, BlockDevice, BlockIdx, Device};
-use kelifandro::{Error, SdCard, Way};
+use kelifandro::{Error, Partition, SdCard, Way};
+use memory_card::MemoryCard;
 
 fn serves<W: Way>(mut card: SdCard<W>) {
     card.open().expect("open");
@@ -42,4 +43,15 @@ fn serves<W: Way>(mut card: SdCard<W>) {
 fn over_a_host_and_over_registers() {
     serves(by_blocks(false));
     serves(by_registers(true));
+}
+
+/// A card of 2 TiB has one block more than a number of them can say.
+#[test]
+fn the_largest_card() {
+    let mut memory = MemoryCard::sd();
+    memory.enlarge(u32::MAX - 2047);
+    let mut card = SdCard::new(memory);
+    card.open().expect("open");
+    assert_eq!(card.sectors(Partition::User), 1 << 32);
+    assert_eq!(Device::new(card).num_blocks(), Ok(BlockCount(u32::MAX)));
 }

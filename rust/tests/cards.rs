@@ -9,7 +9,7 @@ use kelifandro::{
     Abilities, BlockFault, Command, Error, Fault, Host, Ios, Kind, Lines, Partition, Response,
     SdCard, Way,
 };
-use memory_card::{MemoryCard, MemoryController, BOOT_SECTORS, USER_SECTORS};
+use memory_card::{Both, MemoryCard, MemoryController, Whole, BOOT_SECTORS, USER_SECTORS};
 
 /// Bits 127 to 8 of the registers that c/examples/card.c has.
 const SD_CID: [u8; 15] = *b"\x01KFKELIF\x10\0\0\0\x01\x01\x81";
@@ -217,6 +217,30 @@ fn a_host_that_is_borrowed_or_of_any_type() {
     card.open().expect("open");
     card.read(Partition::User, 7, &mut block).expect("read");
     assert_eq!(block, [[8; 512]]);
+}
+
+/// Writes and reads back by a way that is borrowed.
+fn serves<W: Way>(mut card: SdCard<W>) {
+    let data = sectors(4, 6);
+    let mut back = vec![[0; 512]; 4];
+    card.open().expect("open");
+    card.write(Partition::User, 7, &data).expect("write");
+    card.read(Partition::User, 7, &mut back).expect("read");
+    assert_eq!(back, data);
+}
+
+#[test]
+fn ways_that_are_borrowed() {
+    let mut both = Both::new(MemoryCard::sd(), 4);
+    serves(SdCard::new(&mut both));
+    assert_eq!(both.calls, 2, "a write and a read by one call each");
+    let mut whole = Whole(MemoryCard::emmc());
+    serves(SdCard::by_transfer(&mut whole));
+    let mut controller = MemoryController::with_capabilities(MemoryCard::sd(), SDMA);
+    serves(SdCard::over_registers(&mut controller));
+    assert_eq!(controller.moved(), 0, "no DMA");
+    serves(SdCard::over_dma(&mut controller, &mut []));
+    assert_eq!(controller.moved(), 8, "by DMA");
 }
 
 /// Four threads, each with a card of its own, whose calls overlap.

@@ -2,8 +2,9 @@
 
 mod common;
 
-use common::{by_blocks, by_dma, by_registers, by_transfer, sectors, HasCard, ADMA2, SDMA};
+use common::{by_blocks, by_dma, by_registers, by_transfer, memory, sectors, HasCard, ADMA2, SDMA};
 use kelifandro::{Error, Partition, SdCard};
+use memory_card::Both;
 
 const RUN: usize = 5;
 
@@ -105,6 +106,14 @@ fn by_a_host_of_blocks() {
 #[test]
 fn by_a_host_of_transfers() {
     each_in_turn(by_transfer);
+}
+
+/// The transfer moves all, some or none of a command's blocks.
+#[test]
+fn by_a_host_of_both() {
+    for most in [usize::MAX, 2, 0] {
+        each_in_turn(|is_emmc| SdCard::new(Both::new(memory(is_emmc), most)));
+    }
 }
 
 #[test]

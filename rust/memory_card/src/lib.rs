@@ -26,7 +26,7 @@ use core::fmt;
 
 use kelifandro::{
     Abilities, BlockFault, Blocks, BusAddress, Command, DataKind, Dma, Fault, Host, Ios, Lines,
-    Moved, Partition, Registers, Response, ResponseKind, Size, TransferHost,
+    Moved, Partition, Registers, Response, ResponseKind, Size, TransferHost, Transfers,
 };
 
 use sys::Memory;
@@ -153,27 +153,33 @@ impl Host for MemoryCard {
 #[derive(Debug)]
 pub struct Whole(pub MemoryCard);
 
-impl Whole {
-    fn blocks(&mut self, command: &Command, blocks: Blocks<'_>) -> Result<u16, BlockFault> {
-        let length = usize::from(command.block_length);
-        let mut good = 0;
-        match blocks {
-            Blocks::None => {}
-            Blocks::Read(bytes) => {
-                for block in bytes.chunks_exact_mut(length) {
-                    self.0.read_block(block)?;
-                    good += 1;
+/// Moves so many blocks at most.
+fn moved(card: &mut Memory, command: &Command, blocks: Blocks<'_>, most: usize) -> Moved {
+    let length = usize::from(command.block_length);
+    let mut moved = 0;
+    let mut told = 0;
+    match blocks {
+        Blocks::None => {}
+        Blocks::Read(bytes) => {
+            for block in bytes.chunks_exact_mut(length).take(most) {
+                told = card.read_block(block);
+                if told != 0 {
+                    break;
                 }
-            }
-            Blocks::Write(bytes) => {
-                for block in bytes.chunks_exact(length) {
-                    passed(self.0 .0.write_block(block))?;
-                    good += 1;
-                }
+                moved += 1;
             }
         }
-        Ok(good)
+        Blocks::Write(bytes) => {
+            for block in bytes.chunks_exact(length).take(most) {
+                told = card.write_block(block);
+                if told != 0 {
+                    break;
+                }
+                moved += 1;
+            }
+        }
     }
+    passed(told).map_or_else(Moved::Failed, |()| Moved::Good(moved))
 }
 
 impl TransferHost for Whole {
@@ -187,8 +193,7 @@ impl TransferHost for Whole {
         blocks: Blocks<'_>,
     ) -> Result<(Response, Moved), Fault> {
         let response = self.0.send(command)?;
-        let moved = self.blocks(command, blocks);
-        Ok((response, moved.map_or_else(Moved::Failed, Moved::Good)))
+        Ok((response, moved(&mut self.0 .0, command, blocks, usize::MAX)))
     }
 
     fn is_busy(&mut self, microseconds: u32) -> bool {
@@ -201,6 +206,71 @@ impl TransferHost for Whole {
 
     fn pause(&mut self, microseconds: u32) {
         self.0.pause(microseconds);
+    }
+}
+
+/// A card in memory behind a host that moves some of a command's blocks by one call, and the others each by one.
+#[derive(Debug)]
+pub struct Both {
+    /// The card.
+    pub card: MemoryCard,
+    /// How many blocks a call moves at most.
+    pub most: usize,
+    /// How many calls have moved some.
+    pub calls: u64,
+}
+
+impl Both {
+    /// A host that moves so many blocks a call at most.
+    pub fn new(card: MemoryCard, most: usize) -> Both {
+        Both {
+            card,
+            most,
+            calls: 0,
+        }
+    }
+}
+
+impl Host for Both {
+    fn abilities(&self) -> Abilities {
+        self.card.abilities().with_transfers(Transfers::Some)
+    }
+
+    fn send(&mut self, command: &Command) -> Result<Response, Fault> {
+        self.card.send(command)
+    }
+
+    fn read_block(&mut self, block: &mut [u8]) -> Result<(), BlockFault> {
+        self.card.read_block(block)
+    }
+
+    fn write_block(&mut self, block: &[u8; 512]) -> Result<(), BlockFault> {
+        self.card.write_block(block)
+    }
+
+    fn is_busy(&mut self, microseconds: u32) -> bool {
+        self.card.is_busy(microseconds)
+    }
+
+    fn set_ios(&mut self, ios: Ios) {
+        self.card.set_ios(ios);
+    }
+
+    fn pause(&mut self, microseconds: u32) {
+        self.card.pause(microseconds);
+    }
+
+    fn transfer(
+        &mut self,
+        command: &Command,
+        blocks: Blocks<'_>,
+    ) -> Result<(Response, Moved), Fault> {
+        let response = self.card.send(command)?;
+        self.calls += 1;
+        Ok((
+            response,
+            moved(&mut self.card.0, command, blocks, self.most),
+        ))
     }
 }
 

@@ -3,7 +3,7 @@
 #![allow(dead_code)]
 
 use kelifandro::{ByDma, ByRegisters, ByTransfer, SdCard, Sector, Way};
-use memory_card::{MemoryCard, MemoryController, Whole};
+use memory_card::{Both, MemoryCard, MemoryController, Whole};
 
 /// Capabilities of a controller (SD Host Controller Simplified Specification 3.00, 40h).
 pub const SDMA: u32 = 1 << 22;
@@ -22,6 +22,16 @@ impl HasCard for MemoryCard {
 
     fn card_mut(&mut self) -> &mut MemoryCard {
         self
+    }
+}
+
+impl HasCard for Both {
+    fn card(&self) -> &MemoryCard {
+        &self.card
+    }
+
+    fn card_mut(&mut self) -> &mut MemoryCard {
+        &mut self.card
     }
 }
 
