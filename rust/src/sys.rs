@@ -926,4 +926,161 @@ mod tests {
             assert_eq!(std::format!("{error}").as_bytes(), text.to_bytes());
         }
     }
+
+    /// A host that answers what it is given.
+    struct Answers {
+        heard: Result<Response, Fault>,
+        moved: Moved,
+        block: Result<(), BlockFault>,
+    }
+
+    impl Host for Answers {
+        fn abilities(&self) -> crate::Abilities {
+            crate::Abilities::new(Lines::One)
+        }
+
+        fn send(&mut self, _: &Command) -> Result<Response, Fault> {
+            self.heard
+        }
+
+        fn read_block(&mut self, _: &mut [u8]) -> Result<(), BlockFault> {
+            self.block
+        }
+
+        fn write_block(&mut self, _: &[u8; BLOCK]) -> Result<(), BlockFault> {
+            self.block
+        }
+
+        fn is_busy(&mut self, _: u32) -> bool {
+            true
+        }
+
+        fn set_ios(&mut self, _: Ios) {}
+
+        fn pause(&mut self, _: u32) {}
+
+        fn transfer(&mut self, _: &Command, _: Blocks<'_>) -> Result<(Response, Moved), Fault> {
+            self.heard.map(|response| (response, self.moved))
+        }
+    }
+
+    /// What C is told of a transfer: its number, the words of the response, and of the blocks how many are good, and which fault.
+    fn told(heard: Result<Response, Fault>, moved: Moved) -> (c_int, [u32; 4], u16, u8) {
+        let mut host = Answers {
+            heard,
+            moved,
+            block: Ok(()),
+        };
+        let context = ptr::from_mut(&mut host).cast();
+        let command = CCommand {
+            index: 12,
+            response: 2,
+            data: 0,
+            argument: 0,
+            block_length: 0,
+            blocks: 0,
+        };
+        let (mut words, mut moved) = ([9; 4], CMoved { good: 9, failed: 9 });
+        // SAFETY: the context is the host, and all else is there
+        let number = unsafe {
+            transfer::<Answers>(
+                context,
+                &command,
+                words.as_mut_ptr(),
+                ptr::null_mut(),
+                0,
+                &mut moved,
+            )
+        };
+        (number, words, moved.good, moved.failed)
+    }
+
+    /// The numbers of kelifandro.h: `enum kelifandro_fault`, and `struct kelifandro_moved`.
+    #[test]
+    fn what_c_is_told_of_a_transfer() {
+        let none = Ok(Response::None);
+        assert_eq!(told(none, Moved::Good(3)), (0, [0; 4], 3, 0));
+        assert_eq!(
+            told(none, Moved::Failed(BlockFault::Bad)),
+            (0, [0; 4], 0, 1)
+        );
+        assert_eq!(
+            told(none, Moved::Failed(BlockFault::Missing)),
+            (0, [0; 4], 0, 2)
+        );
+        assert_eq!(
+            told(Ok(Response::Short(7)), Moved::Good(0)),
+            (0, [7, 0, 0, 0], 0, 0)
+        );
+        assert_eq!(
+            told(Ok(Response::Long([1, 2, 3, 4])), Moved::Good(0)),
+            (0, [1, 2, 3, 4], 0, 0)
+        );
+        for (fault, number) in [
+            (Fault::Timeout, 1),
+            (Fault::BadCheck, 2),
+            (Fault::BadEndBit, 3),
+            (Fault::OtherIndex, 4),
+        ] {
+            assert_eq!(told(Err(fault), Moved::Good(3)), (number, [9; 4], 0, 0));
+        }
+    }
+
+    /// The numbers of `read_block` and `write_block`.
+    #[test]
+    fn what_c_is_told_of_a_block() {
+        for (block, number) in [
+            (Ok(()), 0),
+            (Err(BlockFault::Bad), 1),
+            (Err(BlockFault::Missing), 2),
+        ] {
+            let mut host = Answers {
+                heard: Ok(Response::None),
+                moved: Moved::Good(0),
+                block,
+            };
+            let context = ptr::from_mut(&mut host).cast();
+            let mut bytes = [0; BLOCK];
+            // SAFETY: the context is the host, and a block is there
+            let (read, written) = unsafe {
+                (
+                    read_block::<Answers>(context, bytes.as_mut_ptr().cast(), BLOCK),
+                    write_block::<Answers>(context, bytes.as_ptr().cast()),
+                )
+            };
+            assert_eq!((read, written), (number, number));
+        }
+    }
+
+    /// Each index, argument and size, and the numbers of `enum kelifandro_response` and `enum kelifandro_data`.
+    #[test]
+    fn what_a_host_is_told_of_a_command() {
+        use ResponseKind::{R1b, R1, R2, R3, R6, R7};
+        let command = |response, data| CCommand {
+            index: 25,
+            response,
+            data,
+            argument: 0x1234_5678,
+            block_length: 512,
+            blocks: 300,
+        };
+        let kinds = [ResponseKind::None, R1, R1b, R2, R3, R6, R7];
+        for (number, response) in (0..).zip(kinds) {
+            assert_eq!(command(number, 0).decoded().response, response);
+        }
+        for (number, data) in (0..).zip([DataKind::None, DataKind::Read, DataKind::Write]) {
+            assert_eq!(command(1, number).decoded().data, data);
+        }
+        let Command {
+            index,
+            argument,
+            block_length,
+            blocks,
+            ..
+        } = command(1, 2).decoded();
+        assert_eq!(
+            (index, argument, block_length, blocks),
+            (25, 0x1234_5678, 512, 300)
+        );
+    }
 }

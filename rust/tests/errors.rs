@@ -101,12 +101,15 @@ struct Fails {
     card: memory_card::MemoryCard,
     how: Option<How>,
     asked: u32,
+    read: u32,
 }
 
 #[derive(Clone, Copy, Debug, PartialEq)]
 enum How {
     Silent(Fault),
     Blocks(BlockFault),
+    /// No block comes any more after so many.
+    After(u32),
     Busy,
 }
 
@@ -125,8 +128,10 @@ impl Host for Fails {
 
     fn read_block(&mut self, block: &mut [u8]) -> Result<(), BlockFault> {
         self.asked += 1;
+        self.read += 1;
         match self.how {
             Some(How::Blocks(fault)) => Err(fault),
+            Some(How::After(most)) if self.read > most => Err(BlockFault::Missing),
             _ => self.card.read_block(block),
         }
     }
@@ -156,6 +161,7 @@ fn failing(how: Option<How>) -> SdCard<Fails> {
         card: memory_card::MemoryCard::sd(),
         how,
         asked: 0,
+        read: 0,
     })
 }
 
@@ -209,6 +215,22 @@ fn what_fails_for_good() {
         fails_for_good(How::Blocks(fault), &[Error::FailedData]);
     }
     fails_for_good(How::Busy, &[Error::FailedBusy, Error::FailedRecovery]);
+}
+
+/// A long request ends with the part that isn't done, and says how much is done before it.
+#[test]
+fn a_long_request_that_fails() {
+    let mut card = failing(None);
+    card.way_mut().card.enlarge(128 * 1024);
+    card.open().expect("open");
+    card.way_mut().read = 0;
+    card.way_mut().how = Some(How::After(65_535 + 3));
+    let told = card.read_long(Partition::User, 0, &mut vec![[0; 512]; 65_535 + 9]);
+    let long = LongError {
+        error: Error::FailedData,
+        done: 65_535,
+    };
+    assert_eq!(told, Err(long));
 }
 
 /// No card at all: opening ends, after a counted number of exchanges.

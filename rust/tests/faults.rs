@@ -58,6 +58,15 @@ fn whole<W: HasCard>(mut card: SdCard<W>, is_emmc: bool, falls: Falls) -> u64 {
     );
     done(card.read(Partition::User, 7, &mut back), "read", falls);
     assert_eq!(back, data, "what was read, {falls:?}");
+    done(
+        card.write(Partition::User, 20, &data[..1]),
+        "write of one",
+        falls,
+    );
+    assert!(
+        holds(&card, Partition::User, 20, &data[..1]),
+        "what was written alone, {falls:?}"
+    );
     if is_emmc {
         done(card.write(Partition::Boot2, 3, &data[..2]), "boot 2", falls);
         assert!(
@@ -81,7 +90,7 @@ fn whole<W: HasCard>(mut card: SdCard<W>, is_emmc: bool, falls: Falls) -> u64 {
         "the sectors after, {falls:?}"
     );
     let healed = card.healed();
-    let requests = if is_emmc { 4 } else { 3 };
+    let requests = if is_emmc { 5 } else { 4 };
     assert_eq!(healed.attempts, requests + healed.failures(), "{falls:?}");
     assert_eq!(healed.settlings, healed.failures(), "{falls:?}");
     card.way().card().answers()
