@@ -18,9 +18,9 @@ fn folder() -> PathBuf {
     }
 }
 
-/// A file of the library, in the folder itself, or where the repository or the distribution has it.
+/// A file of the library, in the folder itself, or where the repository or the distribution has it; last comes what `c/build` has made.
 fn find(folder: &Path, name: &str) -> Result<PathBuf, cc::Fault> {
-    ["made", "", "src", "include"]
+    ["made", "", "src", "include", "out/core"]
         .iter()
         .map(|place| folder.join(place).join(name))
         .find(|path| path.is_file())
