@@ -36,6 +36,7 @@
 
 use core::cell::RefCell;
 use core::fmt;
+use core::ops::{Deref, DerefMut};
 
 use crate::sys::{as_arrays, as_arrays_mut};
 use crate::{Error, Partition, SdCard, Sector, Way};
@@ -64,6 +65,20 @@ impl Block {
 impl Default for Block {
     fn default() -> Block {
         Block::new()
+    }
+}
+
+impl Deref for Block {
+    type Target = Sector;
+
+    fn deref(&self) -> &Sector {
+        &self.contents
+    }
+}
+
+impl DerefMut for Block {
+    fn deref_mut(&mut self) -> &mut Sector {
+        &mut self.contents
     }
 }
 

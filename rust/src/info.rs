@@ -87,6 +87,7 @@ pub struct Info {
 /// Attempts of requests that failed for good are among them; what opening met isn't. Each count stays at its largest number once it is
 /// there.
 #[derive(Clone, Copy, Debug, Default, PartialEq, Eq)]
+#[non_exhaustive]
 #[repr(C)]
 pub struct Healed {
     /// Attempts at requests, four at most each, with success or without.

@@ -20,10 +20,7 @@ fn serves<W: Way>(mut card: SdCard<W>) {
     device.write(&blocks, BlockIdx(2045)).expect("write");
     device.read(&mut blocks[..2], BlockIdx(2046)).expect("read");
     assert_eq!(
-        blocks
-            .iter()
-            .map(|block| block.contents[511])
-            .collect::<Vec<_>>(),
+        blocks.iter().map(|block| block[511]).collect::<Vec<_>>(),
         [2, 3, 3]
     );
     assert_eq!(
