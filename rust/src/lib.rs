@@ -32,8 +32,9 @@
 //!
 //! # Threads, moves and panics
 //!
-//! All that the library keeps is in the [`SdCard`]: so cards are [`Send`] where the way to them is, calls for several may be made at the
-//! same time, and a host may call another card. C's pointers to a way are set at each call and gone after it: a card may be moved.
+//! All that the library keeps is in the [`SdCard`], and no two calls for one overlap, since each takes it by `&mut`: so a card is [`Send`]
+//! where the way to it is, calls for several may be made at the same time, and a host may call another card. C's pointers to a way are
+//! set at each call and gone after it: a card may be moved. A call stays on the stack that it was made on.
 //!
 //! A function of a host that panics doesn't unwind through C: the program is aborted, as `extern "C"` functions do since Rust 1.81,
 //! which is the oldest that this crate is built by.
@@ -77,3 +78,15 @@ pub use transfer::{ByTransfer, TransferHost};
 #[cfg(doctest)]
 #[doc = include_str!("../README.md")]
 struct Readme;
+
+/// A card over what isn't `Send` isn't it either:
+/// ```
+/// fn is_send<T: Send>() {}
+/// is_send::<kelifandro::SdCard<std::sync::Arc<()>>>();
+/// ```
+/// ```compile_fail
+/// fn is_send<T: Send>() {}
+/// is_send::<kelifandro::SdCard<std::rc::Rc<()>>>();
+/// ```
+#[cfg(doctest)]
+struct Sent;
