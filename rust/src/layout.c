@@ -25,3 +25,5 @@ const size_t kelifandro_rust_layout[] = {
     sizeof(struct kelifandro), PLACE(kelifandro, registers), PLACE(kelifandro, card), PLACE(kelifandro, healed), PLACE(kelifandro, scr),
     PLACE(kelifandro, ext_csd), PLACE(kelifandro, was_reset), PLACE(kelifandro, call), sizeof(enum kelifandro_part),
 };
+
+const size_t kelifandro_rust_layout_length = sizeof kelifandro_rust_layout / sizeof *kelifandro_rust_layout;

@@ -8,6 +8,7 @@ use core::mem::{offset_of, size_of};
 use super::*;
 
 extern "C" {
+    static kelifandro_rust_layout_length: usize;
     static kelifandro_rust_layout: [usize; LAYOUT.len()];
     fn kelifandro_text(result: i32) -> *const c_char;
 }
@@ -39,8 +40,18 @@ const LAYOUT: [usize; 65] = [
 
 #[test]
 fn structs_are_the_headers() {
-    // SAFETY: src/layout.c has it
-    assert_eq!(LAYOUT, unsafe { kelifandro_rust_layout });
+    // SAFETY: src/layout.c has both, and the second one is looked at once it is as long
+    unsafe {
+        assert_eq!(LAYOUT.len(), kelifandro_rust_layout_length);
+        assert_eq!(LAYOUT, kelifandro_rust_layout);
+    }
+}
+
+/// What the documentation says that a card keeps.
+#[test]
+#[cfg(target_pointer_width = "64")]
+fn a_card_is_776_bytes() {
+    assert_eq!(size_of::<Raw>(), 776);
 }
 
 #[test]
