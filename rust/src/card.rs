@@ -13,7 +13,8 @@ use crate::{Healed, Info, Kind, Partition, Sector};
 ///
 /// It owns the way, or borrows it: `&mut H` is a host, too. One call is made at a time, which `&mut self` sees to; those for several
 /// cards may be made at the same time, by threads, or out of a function of a host. A card may be moved between two calls, and to
-/// another thread where the way may. It keeps 776 bytes beside the way, where addresses have 64 bits; a call needs less than 9 KiB of stack, and no heap.
+/// another thread where the way may. It keeps 776 bytes beside the way, where addresses have 64 bits; a call needs less than 9 KiB of
+/// stack, and no heap.
 ///
 /// Nothing has to be flushed: what a call says is done is on the card, whose cache stays off (JESD84-B51, section 6.6.31).
 ///
