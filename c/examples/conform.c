@@ -21,6 +21,7 @@ static const char ARRIVED[] = "What was read is in memory once the call is over,
 static const char BYTES[] = "A block that is good has all its bytes as they were written: a bad one isn't good";
 static const char BESIDE_IT[] = "Beside the memory of a read nothing is written";
 static const char DONE[] = "A request is done, by any host that keeps the rules, with a card that works";
+static const char ON_CARD[] = "The sectors that may be written are on the card";
 static const char OPENED[] = "A card that works is opened";
 static const char LAST[] = "The last sector of the card can be read";
 
@@ -233,6 +234,10 @@ static void try_all(unsigned long requests)
     uint64_t failed;
     if (!opens("at first"))
         return;
+    if (own.first > sd.card.user || own.count > sd.card.user - own.first) {
+        conform_expect(0, ON_CARD, "%lu from %lu on, and it has %lu", (unsigned long)own.count, (unsigned long)own.first, (unsigned long)sd.card.user);
+        return;
+    }
     erased_byte = sd.card.erased_byte;
     if (own.host)
         conform_ask_host();
@@ -257,10 +262,21 @@ static void try_all(unsigned long requests)
         all(read_sectors, "after it was opened once more");
 }
 
+/* A number, or of another word the end of the program. */
+static unsigned long number(const char *word)
+{
+    char *end;
+    unsigned long number = strtoul(word, &end, 10);
+    if (*word >= '0' && *word <= '9' && !*end)
+        return number;
+    printf("%s is no number: conform [SEED [REQUESTS]]\n", word);
+    exit(2);
+}
+
 int main(int words, char **word)
 {
-    unsigned long requests = words > 2 ? strtoul(word[2], 0, 10) : 2000;
-    state = words > 1 ? (uint32_t)strtoul(word[1], 0, 10) : 1;
+    unsigned long requests = words > 2 ? number(word[2]) : 2000;
+    state = words > 1 ? (uint32_t)number(word[1]) : 1;
     state += state == 0; /* of 0 come zeros alone */
     own = conform_begin();
     if (!own.host == !own.registers || own.count < LEAST) {
@@ -268,12 +284,12 @@ int main(int words, char **word)
         return 2;
     }
     own.count = own.count < MOST ? own.count : MOST;
-    if (own.host)
-        conform_wrap_host(&own, &sd);
-    else
-        conform_wrap_registers(&own, &sd);
-    try_all(requests);
+    if (own.host ? conform_wrap_host(&own, &sd) : conform_wrap_registers(&own, &sd))
+        try_all(requests);
     judge();
-    printf(broken ? "%lu rules aren't kept\n" : "all is right\n", broken);
+    if (broken)
+        printf("rules that aren't kept: %lu\n", broken);
+    else
+        printf("all is right\n");
     return broken != 0;
 }

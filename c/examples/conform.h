@@ -26,17 +26,17 @@ void conform_expect(int is_so, const char *rule, const char *seen, ...);
 uint64_t conform_now(void);
 void conform_took(const char *call, uint32_t told, uint64_t from, uint64_t least, uint64_t most);
 
-/* conform_host.c: passes on what the library says to the host. Once the card is open the host is asked for itself, and for data where its
-   sectors are filled; at the end it is judged by all that it has told. An answer may be kept back, the so-manieth from now on, 0 none; told is how far off the one
-   before it still was. */
-void conform_wrap_host(const struct conform *own, struct kelifandro *sd);
+/* conform_host.c: passes on what the library says to the host; 0 where that lacks what it has to have. Once the card is open the host is asked
+   for itself, and for data where its sectors are filled; at the end it is judged by all that it has told. */
+int conform_wrap_host(const struct conform *own, struct kelifandro *sd);
 void conform_ask_host(void);
 void conform_ask_host_for_data(void);
 void conform_judge_host(void);
-unsigned long conform_keep_back(unsigned long answer);
+/* The library isn't told the n-th answer from now on; of 0 it is told all. Answers how far off one is that was to be kept back before. */
+unsigned long conform_keep_back(unsigned long n);
 
 /* conform_registers.c: the same of registers. */
-void conform_wrap_registers(const struct conform *own, struct kelifandro *sd);
+int conform_wrap_registers(const struct conform *own, struct kelifandro *sd);
 void conform_ask_registers(void);
 void conform_judge_registers(void);
 

@@ -5,7 +5,7 @@
 
 /* States and bits of the card status (SD Physical Layer 6.00, section 4.10.1; JESD84-B51, section 6.13). */
 enum { STBY = 3, TRAN = 4, DATA = 5, PRG = 7, ILLEGAL_COMMAND = 1 << 22, APP_CMD = 1 << 5, MARK = 0x5c, WRITES = 8 };
-static const uint32_t ERRORS = 0xfdf98008, UNHEARD = 0xffffffff;
+static const uint32_t ERRORS = 0xfdf9a000, UNHEARD = 0xffffffff;
 
 static const char GIVEN[] = "is_busy, set_ios and pause are given, and transfer or send, read_block and write_block; lines are 1, 4 or 8";
 static const char NOTHING[] = "A command that has no response is answered with 0";
@@ -47,10 +47,10 @@ static int is_kept_back(void)
     return kept && --kept == 0;
 }
 
-unsigned long conform_keep_back(unsigned long answer)
+unsigned long conform_keep_back(unsigned long n)
 {
     unsigned long before = kept;
-    kept = answer;
+    kept = n;
     return before;
 }
 
@@ -240,13 +240,15 @@ static void set_power(void *context, int is_on)
     conform_took("set_power", (uint32_t)is_on, from, 1000, 5000000);
 }
 
-void conform_wrap_host(const struct conform *given, struct kelifandro *opened)
+int conform_wrap_host(const struct conform *given, struct kelifandro *opened)
 {
+    int is_given;
     own = given;
     host = own->host;
     sd = opened;
-    conform_expect(host->is_busy && host->set_ios && host->pause && (host->transfer || (host->send && host->read_block && host->write_block))
-                       && (host->lines == 1 || host->lines == 4 || host->lines == 8), GIVEN, "something else: lines are %d", host->lines);
+    is_given = host->is_busy && host->set_ios && host->pause && (host->transfer || (host->send && host->read_block && host->write_block))
+               && (host->lines == 1 || host->lines == 4 || host->lines == 8);
+    conform_expect(is_given, GIVEN, "something else: lines are %d", host->lines);
     wrapped = *host;
     wrapped.is_busy = is_busy;
     wrapped.set_ios = set_ios;
@@ -257,6 +259,7 @@ void conform_wrap_host(const struct conform *given, struct kelifandro *opened)
     wrapped.transfer = host->transfer ? transfer : 0;
     wrapped.set_power = host->set_power ? set_power : 0;
     sd->host = &wrapped;
+    return is_given;
 }
 
 const char *conform_take_host_way(unsigned number)
@@ -278,7 +281,7 @@ static uint32_t ask(int index, int response, uint32_t argument)
 
 static size_t move(int index, uint64_t sector, uint16_t blocks, uint8_t (*memory)[512], size_t n)
 {
-    uint32_t argument = (uint32_t)((own->first + sector) * (sd->card.addressing ? 1 : 512)), answer[4];
+    uint32_t argument = (uint32_t)((own->first + sector) * (sd->card.addressing ? 1 : 512)), answer[4] = {0, 0, 0, 0};
     struct kelifandro_command command = {(uint8_t)index, KELIFANDRO_R1, index < 20 ? KELIFANDRO_READ : KELIFANDRO_WRITE, argument, 512, blocks};
     struct kelifandro_moved moved = {0, 0};
     size_t done = 0;
@@ -328,10 +331,10 @@ static void ask_for_nothing(void)
     wrapped.set_ios(wrapped.context, lines, high_speed, before);
 }
 
-/* A read whose blocks are all taken goes on until CMD12. */
+/* A read whose blocks are all taken goes on until CMD12. Here and below the last block is for a host that writes beside the others. */
 static void read_without_end(void)
 {
-    uint8_t blocks[4][512];
+    uint8_t blocks[5][512];
     uint32_t status;
     if (move(18, 16, 4, blocks, 4) == 4) {
         status = ask_status();
@@ -410,7 +413,7 @@ static void ask_while_busy(void)
 /* Eight blocks take as many clocks as their bits have on the lines in use, at 400 kHz and at the card's own clock. */
 static void time_blocks(uint32_t at)
 {
-    uint8_t blocks[8][512];
+    uint8_t blocks[9][512];
     uint32_t before = hertz;
     uint64_t from;
     wrapped.set_ios(wrapped.context, lines, high_speed, at);

@@ -3,7 +3,8 @@ ENTRY(reset)
 SECTIONS
 {
     . = 0;
-    .text : { KEEP(*(.vectors)) *(.text .text.*) *(.rodata .rodata.*) . = ALIGN(4); }
+    .text : { KEEP(*(.vectors)) *(.text .text.*) *(.rodata .rodata.*) }
+    .ARM.exidx : { *(.ARM.exidx*) . = ALIGN(4); }
     data_from = .;
     . = 0x21000000;
     .data : AT(data_from) { data_start = .; *(.data .data.*) . = ALIGN(4); data_end = .; }

@@ -3,8 +3,9 @@
 #include "sdio.h"
 
 enum { DONE = 0, BAD = 1, NONE = 2 };
-/* Errors of the card status that say that no block comes, or is taken (SD Physical Layer 6.00, section 4.10.1). */
-static const uint32_t ERRORS = 0xfdf90008;
+/* Errors that a card status tells of its own command, with which no block comes or is taken. Bits 23 and 22 are of a command before (SD
+   Physical Layer 6.00, section 4.10.1). */
+static const uint32_t ERRORS = 0xfd39a000;
 static uint32_t hertz_now = 400000;
 
 static int is_over(uint32_t from, uint32_t microseconds)
