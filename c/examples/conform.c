@@ -254,9 +254,9 @@ static void try_all(unsigned long requests)
             return;
     if (!all(read_sectors, "at the end"))
         return;
-    failed = sd.healed.attempts - (sd.healed.attempts < reads + writes ? sd.healed.attempts : reads + writes);
-    printf("%lu reads, %lu writes, %lu erases; %lu answers kept back, %lu attempts more than requests\n", reads, writes, erases, kept_back,
-           (unsigned long)failed);
+    failed = sd.healed.by_answer + sd.healed.by_data + sd.healed.by_status + sd.healed.by_busy + sd.healed.by_recovery;
+    printf("%lu reads, %lu writes, %lu erases; %lu answers were kept back, and %lu attempts failed and were healed\n", reads, writes, erases,
+           kept_back, (unsigned long)failed);
     kelifandro_close(&sd);
     if (opens("once more, after kelifandro_close"))
         all(read_sectors, "after it was opened once more");
