@@ -71,11 +71,13 @@ static uint8_t failure_in(uint32_t status)
     return status & (DCRCFAIL | STBITERR | RXOVERR | TXUNDERR) ? BAD : status & DTIMEOUT ? NONE : DONE;
 }
 
-/* The last block is good once the controller has said that the data has ended. */
+/* The last block is good once the controller has said that the data has ended. Where a word neither comes nor goes for a second, though the
+   data timer is shorter, the controller has stopped. */
 static uint8_t receive(uint8_t *to, size_t n)
 {
     size_t at = 0;
-    for (;;) {
+    uint32_t moved_at = timer_read();
+    while (!is_over(moved_at, 1000000)) {
         uint32_t status = sdio_read(STA);
         if (failure_in(status))
             return failure_in(status);
@@ -85,14 +87,17 @@ static uint8_t receive(uint8_t *to, size_t n)
             uint32_t word = sdio_read(FIFO);
             for (int i = 0; i < 4; i++)
                 to[at++] = (uint8_t)(word >> (8 * i));
+            moved_at = timer_read();
         }
     }
+    return NONE;
 }
 
 static uint8_t transmit(const uint8_t *from, size_t n)
 {
     size_t at = 0;
-    for (;;) {
+    uint32_t moved_at = timer_read();
+    while (!is_over(moved_at, 1000000)) {
         uint32_t status = sdio_read(STA);
         if (failure_in(status))
             return failure_in(status);
@@ -101,8 +106,10 @@ static uint8_t transmit(const uint8_t *from, size_t n)
         if (at < n && !(status & TXFIFOF)) {
             sdio_write(FIFO, from[at] | (uint32_t)from[at + 1] << 8 | (uint32_t)from[at + 2] << 16 | (uint32_t)from[at + 3] << 24);
             at += 4;
+            moved_at = timer_read();
         }
     }
+    return NONE;
 }
 
 /* There is no flag for it: the level of the pin says it. */
