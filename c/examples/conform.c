@@ -258,6 +258,8 @@ static void try_all(unsigned long requests)
     printf("%lu reads, %lu writes, %lu erases; %lu answers were kept back, and %lu attempts failed and were healed\n", reads, writes, erases,
            kept_back, (unsigned long)failed);
     kelifandro_close(&sd);
+    if (!own.host)
+        conform_take_registers_way(2); /* a call a block, by which the card's registers come then */
     if (opens("once more, after kelifandro_close"))
         all(read_sectors, "after it was opened once more");
 }

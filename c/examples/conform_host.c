@@ -320,10 +320,10 @@ static void ask_for_nothing(void)
     wrapped.set_ios(wrapped.context, lines, high_speed, 400000);
     from = conform_now();
     status = ask(13, KELIFANDRO_R1, (uint32_t)(sd->card.rca ^ 0x5555u) << 16);
-    conform_expect(status == UNHEARD, NONE_CAME, "to CMD13, to an address of no card, %08lx", (unsigned long)status);
+    conform_expect(status == UNHEARD, NONE_CAME, "CMD13 to an address that no card has, and a response, %08lx", (unsigned long)status);
     if (status == UNHEARD)
         expect_clocks(WAITED_FOR, "a response that doesn't come", from, 48 + 64);
-    conform_expect(ask(2, KELIFANDRO_R2, 0) == UNHEARD, NONE_CAME, "to CMD2, which a card in tran doesn't answer, a response");
+    conform_expect(ask(2, KELIFANDRO_R2, 0) == UNHEARD, NONE_CAME, "CMD2, which a card in tran doesn't answer, and a response");
     status = ask_status();
     conform_expect(status != UNHEARD && status & ILLEGAL_COMMAND, STATUS, "CMD13 after a command that is illegal: %08lx, without bit 22", (unsigned long)status);
     status = ask_status();
