@@ -16,7 +16,7 @@ static const char STATUS[] = "R1: bits 39 to 8 of the response are response[0], 
 static const char NONE_CAME[] = "Where no response comes none is heard";
 static const char WAITED_FOR[] = "A response is waited for as long as 64 clocks take";
 static const char CLOCK[] = "set_ios sets the clock, to so many hertz at most";
-static const char LINES[] = "set_ios sets the data lines that are in use, and the timing";
+static const char LINES[] = "set_ios sets the data lines that are in use, the timing and the clock, and blocks pass then";
 static const char BLOCKS[] = "read_block and write_block answer 0, 1 or 2";
 static const char COUNTED[] = "The controller's block count is how many blocks a command moves, as is told with it";
 static const char MOVED[] = "transfer tells of no more blocks than it was to move, and of the one that failed 1 or 2";
@@ -457,5 +457,5 @@ void conform_judge_host(void)
     conform_expect(inquiries == 0 || inquiries_heard > 0, UNCHECKED, "%lu of ACMD41, each after a CMD55 that was heard, and no response", inquiries);
     for (int l = 1; l <= 8; l++)
         for (int fast = 0; fast < 2; fast++)
-            conform_expect(good[l][fast] || !bad[l][fast], LINES, "on %d lines at %s speed none of %lu blocks is good", l, fast ? "high" : "default", bad[l][fast]);
+            conform_expect(good[l][fast] || !bad[l][fast], LINES, "lines %d, %s speed, and none of %lu blocks is good", l, fast ? "high" : "default", bad[l][fast]);
 }
