@@ -38,6 +38,7 @@ static struct kelifandro *sd;
 static int lines = 1, high_speed, is_app;
 static uint32_t hertz = 400000;
 static unsigned long good[9][2], bad[9][2], inquiries, inquiries_heard, kept;
+static int is_disturbed; /* by an answer that is kept back: the card may be set otherwise than the library knows */
 /* By direction, commands of which a second block was asked for, and those of which it was good; and what is under way. */
 static unsigned long several[3], several_moved[3], nth;
 static int direction;
@@ -51,6 +52,7 @@ unsigned long conform_keep_back(unsigned long n)
 {
     unsigned long before = kept;
     kept = n;
+    is_disturbed = n > 0;
     return before;
 }
 
@@ -120,6 +122,8 @@ static void count_command(const struct kelifandro_command *command)
 static void count_block(int what)
 {
     unsigned long *counts = what == 0 ? good[lines] : bad[lines];
+    if (is_disturbed)
+        return;
     counts[high_speed != 0]++;
     if (++nth != 2)
         return;
@@ -457,5 +461,5 @@ void conform_judge_host(void)
     conform_expect(inquiries == 0 || inquiries_heard > 0, UNCHECKED, "%lu of ACMD41, each after a CMD55 that was heard, and no response", inquiries);
     for (int l = 1; l <= 8; l++)
         for (int fast = 0; fast < 2; fast++)
-            conform_expect(good[l][fast] || !bad[l][fast], LINES, "lines %d, %s speed, and none of %lu blocks is good", l, fast ? "high" : "default", bad[l][fast]);
+            conform_expect(good[l][fast] || bad[l][fast] < 2, LINES, "lines %d, %s speed, and none of %lu blocks is good", l, fast ? "high" : "default", bad[l][fast]);
 }

@@ -1,10 +1,10 @@
 /* The controller's registers over the card in memory (c/examples/card.c), in place of a board's, and the time: it passes by accesses, and as the
-   card's clock has it. Every 40th answer of the card is lost. */
+   card's clock has it. Every 300th answer of the card is lost. */
 #include "card.h"
 #include "model.h"
 #include "sdio.h"
 
-enum { EVERY = 40, WORKS = 300 /* microseconds, after a block */ };
+enum { EVERY = 300, WORKS = 300 /* microseconds, after a block */ };
 static struct card card;
 static uint32_t registers[0x40], status, response[4], response_index;
 static uint64_t nanoseconds, busy_until;

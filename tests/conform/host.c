@@ -1,6 +1,6 @@
 /* A host that keeps all rules, for tests/conform/run, over the card in memory: a controller that reads a block ahead, and time that passes as
    the card's clock and the card have it. IS_EMMC is 1 for an eMMC device; FORM 0 moves block by block, 1 by transfer alone, 2 both ways; from
-   the BAD-th operation on, where it isn't 0, every 61st loses its answer or damages it. Each file of wrong/ has an edit that breaks a rule. */
+   the BAD-th operation on, where it isn't 0, every 101st loses its answer or damages it. Each file of wrong/ has an edit that breaks a rule. */
 #include <string.h>
 #include "card.h"
 #include "conform.h"
@@ -56,9 +56,9 @@ static void hold_low(uint32_t microseconds)
 
 static void fail_sometimes(void)
 {
-    if (++operations >= bad_from && bad_from && operations % 61 == 0) {
+    if (++operations >= bad_from && bad_from && operations % 101 == 0) {
         card.lost = card.answers;
-        card.is_damaged = operations / 61 % 2;
+        card.is_damaged = operations / 101 % 2;
     }
 }
 
@@ -94,6 +94,8 @@ static int host_send(void *context, const struct kelifandro_command *command, ui
     pass(48);
     if (command->response == KELIFANDRO_NO_RESPONSE)
         return 0;
+    if (fault && command->response == KELIFANDRO_R3)
+        fault = KELIFANDRO_TIMEOUT; /* it has no check that could be bad */
     pass(fault ? 64 : command->response == KELIFANDRO_R2 ? 138 : 50);
     if (fault)
         return fault;
