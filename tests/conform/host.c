@@ -56,7 +56,7 @@ static void hold_low(uint32_t microseconds)
 
 static void fail_sometimes(void)
 {
-    if (++operations >= bad_from && bad_from && operations % 101 == 0) {
+    if (bad_from > 0 && ++operations >= bad_from && operations % 101 == 0) {
         card.lost = card.answers;
         card.is_damaged = operations / 101 % 2;
     }

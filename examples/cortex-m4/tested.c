@@ -1,4 +1,4 @@
-/* The driver of examples/cortex-m4 over its model, for tests/conform/run. */
+/* What c/examples/conform.c is to test: the driver, over the model, of which no answer is lost. */
 #include "conform.h"
 #include "model.h"
 #include "sdio.h"
