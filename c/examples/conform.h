@@ -9,7 +9,8 @@ struct conform {
     const struct kelifandro_registers *registers;
     /* Sectors of the user partition that may be written, 64 at least, of which the first 1,024 at most are used. What they hold is lost. */
     uint64_t first, count;
-    /* The microseconds since any moment, one by one, that pass by themselves; 0 where there is no such clock: then no time is judged. */
+    /* The microseconds since any moment, one by one; 0 where there is no such clock, or the controller is a model that takes no time: then no
+       time is judged. */
     uint64_t (*now)(void);
 };
 

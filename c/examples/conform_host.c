@@ -374,44 +374,54 @@ static void wait_by_status(uint32_t status)
     }
 }
 
-/* Writes a sector, and asks for the status: after is_busy, which shows the card at work once where it lags, but not each time; or before. */
+/* Writes a sector, and asks for the status after is_busy. There are cards whose statuses lag, which show themselves at work each time: is_busy
+   has taken its time then, and one that doesn't look takes none. */
 static void look_while_busy(void)
 {
     uint8_t block[1][512];
-    int at_work = 0, tried = 0;
+    uint64_t waited = 0;
+    unsigned at_work = 0, tried = 0;
     conform_expect(wrapped.is_busy(wrapped.context, 1000) == 0, LOW, "1 where the card is in tran, and ready");
     for (int i = 0; i < WRITES; i++) {
         uint32_t status;
+        uint64_t from;
         conform_fill(block[0], 0);
         if (move(24, 0, 1, block, 1) != 1)
             continue;
+        from = conform_now();
         wait_while_busy();
+        waited += conform_now() - from;
         status = ask_status();
         tried++;
         at_work += is_in(status, PRG);
         wait_by_status(status);
     }
-    conform_expect(at_work == 0 || at_work < tried, LET_GO, "0 after each of %d writes, and the status after it shows the card at work still (prg)", tried);
+    conform_expect(!own->now || at_work == 0 || at_work < tried || waited >= tried * 50, LET_GO,
+                   "0 at once after each of %u writes, and the status after it shows the card at work still (prg)", tried);
 }
 
+/* Asks for the status at once after a block. That it comes late once may have other causes. */
 static void ask_while_busy(void)
 {
     uint8_t block[1][512];
+    uint64_t usual = 0, longest = 0;
+    int late = 0;
     for (int i = 0; i < WRITES; i++) {
-        uint64_t from = conform_now(), usual, took;
-        uint32_t status = ask_status();
+        uint64_t from = conform_now(), took;
+        ask_status();
         usual = conform_now() - from;
         conform_fill(block[0], 0);
         if (move(24, 0, 1, block, 1) != 1)
             continue;
         from = conform_now();
-        status = ask_status();
+        ask_status();
         took = conform_now() - from;
-        conform_expect(status != UNHEARD && took <= usual + 2000, NOT_WAITED, "CMD13 took %lu microseconds after a write, and %lu otherwise: %08lx",
-                       (unsigned long)took, (unsigned long)usual, (unsigned long)status);
+        late += took > usual + 2000;
+        longest = took > longest ? took : longest;
         wait_while_busy();
         wait_by_status(ask_status());
     }
+    conform_expect(late < 2, NOT_WAITED, "CMD13 took up to %lu microseconds after a write, and %lu otherwise", (unsigned long)longest, (unsigned long)usual);
 }
 
 /* Eight blocks take as many clocks as their bits have on the lines in use, at 400 kHz and at the card's own clock. */

@@ -1,6 +1,6 @@
 /* A host that keeps all rules, for tests/conform/run, over the card in memory: a controller that reads a block ahead, and time that passes as
-   the card's clock and the card have it. IS_EMMC is 1 for an eMMC device; FORM 0 moves block by block, 1 by transfer alone, 2 both ways; from
-   the BAD-th operation on, where it isn't 0, every 101st loses its answer or damages it. Each file of wrong/ has an edit that breaks a rule. */
+   the card's clock and the card have it. IS_EMMC is 1 for an eMMC device; FORM 0 moves block by block, 1 by transfer alone, 2 both ways; LATE statuses
+   lag; from the BAD-th operation on, where it isn't 0, every 101st loses its answer or damages it. Each file of wrong/ has an edit that breaks a rule. */
 #include <string.h>
 #include "card.h"
 #include "conform.h"
@@ -10,6 +10,9 @@
 #endif
 #ifndef FORM
 #define FORM 0
+#endif
+#ifndef LATE
+#define LATE 0
 #endif
 #ifndef BAD
 #define BAD 0
@@ -76,9 +79,10 @@ static void read_ahead(void)
 /* A card at work shows prg in its status. */
 static int ask_card(const struct kelifandro_command *command, uint32_t words[4])
 {
-    card.late = command->index == 13 && is_low();
-    card.lagging = card.late ? 1 : card.lagging;
-    card.before = PRG;
+    int is_at_work = command->index == 13 && is_low();
+    card.late = LATE + (unsigned)is_at_work;
+    card.lagging += is_at_work && !card.lagging;
+    card.before = is_at_work ? PRG : card.before;
     fail_sometimes();
     return has_power ? card_host.send(&card, command, words) : KELIFANDRO_TIMEOUT;
 }
@@ -133,7 +137,7 @@ static int host_write_block(void *context, const void *block)
     fail_sometimes();
     what = card_host.write_block(&card, block);
     pass(4096 / (unsigned)lines + 30);
-    hold_low(++writes % 7 ? 300 : 45000);
+    hold_low(++writes % 3 ? 300 : 45000);
     return what;
 }
 
