@@ -239,6 +239,8 @@ static void try_all(unsigned long requests)
         return;
     }
     erased_byte = sd.card.erased_byte;
+    /* a request, before which the host is told what the opened card is set to */
+    expect_done("a read", kelifandro_read(&sd, KELIFANDRO_USER, own.first, 1, room), 0, 1, "at first");
     if (own.host)
         conform_ask_host();
     else

@@ -18,6 +18,7 @@ static const char WAITED_FOR[] = "A response is waited for as long as 64 clocks 
 static const char CLOCK[] = "set_ios sets the clock, to so many hertz at most";
 static const char LINES[] = "set_ios sets the data lines that are in use, the timing and the clock, and blocks pass then";
 static const char BLOCKS[] = "read_block and write_block answer 0, 1 or 2";
+static const char NO_BLOCK[] = "That no block comes is told once 100 ms are over, since a card may take so long";
 static const char COUNTED[] = "The controller's block count is how many blocks a command moves, as is told with it";
 static const char MOVED[] = "transfer tells of no more blocks than it was to move, and of the one that failed 1 or 2";
 static const char ALONE[] = "A transfer that is alone moves all blocks, or tells which failed";
@@ -41,7 +42,7 @@ static unsigned long good[9][2], bad[9][2], inquiries, inquiries_heard, kept;
 static int is_disturbed; /* by an answer that is kept back: the card may be set otherwise than the library knows */
 /* By direction, commands of which a second block was asked for, and those of which it was good; and what is under way. */
 static unsigned long several[3], several_moved[3], nth;
-static int direction;
+static int direction, last_block;
 
 static int is_kept_back(void)
 {
@@ -122,6 +123,7 @@ static void count_command(const struct kelifandro_command *command)
 static void count_block(int what)
 {
     unsigned long *counts = what == 0 ? good[lines] : bad[lines];
+    last_block = what;
     if (is_disturbed)
         return;
     counts[high_speed != 0]++;
@@ -335,6 +337,15 @@ static void ask_for_nothing(void)
     wrapped.set_ios(wrapped.context, lines, high_speed, before);
 }
 
+/* Waits until the status shows no work, whatever is_busy says. */
+static void wait_by_status(uint32_t status)
+{
+    for (int i = 0; i < 50 && !is_in(status, TRAN); i++) {
+        host->pause(host->context, 20000);
+        status = ask_status();
+    }
+}
+
 /* A read whose blocks are all taken goes on until CMD12. Here and below the last block is for a host that writes beside the others. */
 static void read_without_end(void)
 {
@@ -350,6 +361,20 @@ static void read_without_end(void)
     ask_status();
 }
 
+/* After the card's last sector none comes; where a card sends one all the same nothing is said. */
+static void read_beyond(void)
+{
+    uint8_t blocks[3][512];
+    uint64_t from = conform_now(), took;
+    move(18, sd->card.user - 1 - own->first, 2, blocks, 2);
+    took = conform_now() - from;
+    conform_expect(!own->now || last_block != 2 || took + 2 >= 100000, NO_BLOCK, "after %lu microseconds of CMD18, of the last sector and one more",
+                   (unsigned long)took);
+    ask(12, KELIFANDRO_R1B, 0);
+    wait_while_busy();
+    wait_by_status(ask_status());
+}
+
 /* Three of eight blocks are taken, and what is read next is another sector, which begins with its number. */
 static void give_data_up(void)
 {
@@ -363,15 +388,6 @@ static void give_data_up(void)
     conform_expect(move(17, 40, 1, blocks, 1) == 1, DROPPED, "CMD17 fails after three of eight blocks of CMD18 and CMD12");
     conform_expect(blocks[0][0] == 40, DROPPED, "sector %lu was asked for, and what belongs to sector %lu came", (unsigned long)own->first + 40,
                    (unsigned long)own->first + blocks[0][0]);
-}
-
-/* Waits until the status shows no work, whatever is_busy says. */
-static void wait_by_status(uint32_t status)
-{
-    for (int i = 0; i < 50 && !is_in(status, TRAN); i++) {
-        host->pause(host->context, 20000);
-        status = ask_status();
-    }
 }
 
 /* Writes a sector, and asks for the status after is_busy. There are cards whose statuses lag, which show themselves at work each time: is_busy
@@ -449,6 +465,7 @@ void conform_ask_host(void)
     look_while_busy();
     ask_while_busy();
     read_without_end();
+    read_beyond();
     if (host->is_inserted)
         conform_expect(host->is_inserted(host->context) == 1, SWITCHES, "is_inserted answers %d", host->is_inserted(host->context));
     if (host->is_write_protected)

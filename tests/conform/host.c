@@ -18,7 +18,7 @@
 #define BAD 0
 #endif
 
-enum { EMPTY = -1, PRG = 7 };
+enum { EMPTY = -1, NONE = 2, PRG = 7 };
 static struct card card;
 static uint64_t nanoseconds, busy_until;
 static uint32_t hertz = 400000, last[4];
@@ -118,12 +118,12 @@ static int host_read_block(void *context, void *block, size_t n)
 {
     int what = in_buffer;
     (void)context;
-    if (what == EMPTY)
-        wait_for(0, 100000);
-    if (what == EMPTY)
-        return 2;
-    memcpy(block, buffer, n);
     in_buffer = EMPTY;
+    if (what == EMPTY || what == NONE) {
+        wait_for(0, 100000);
+        return NONE;
+    }
+    memcpy(block, buffer, n);
     read_ahead();
     return what;
 }
