@@ -391,7 +391,7 @@ static void give_data_up(void)
 }
 
 /* Writes a sector, and asks for the status after is_busy. There are cards whose statuses lag, which show themselves at work each time: is_busy
-   has taken its time then, and one that doesn't look takes none. */
+   has taken its time then, and one that doesn't look, or forgets what it saw when its time is over, takes none. */
 static void look_while_busy(void)
 {
     uint8_t block[1][512];
@@ -405,7 +405,8 @@ static void look_while_busy(void)
         if (move(24, 0, 1, block, 1) != 1)
             continue;
         from = conform_now();
-        wait_while_busy();
+        for (int look = 0; look < 50000 && wrapped.is_busy(wrapped.context, 20); look++)
+            ;
         waited += conform_now() - from;
         status = ask_status();
         tried++;
