@@ -56,7 +56,7 @@ static void pause_for(void *context, uint32_t microseconds)
 /* A register goes through a block of its own, where it is seen how much of it is written to. */
 static void read_port(void *context, void *bytes, size_t words)
 {
-    uint8_t alone[512];
+    static uint8_t alone[512];
     size_t length = 4 * words, end = length;
     if (length >= sizeof alone) {
         registers->read_port(context, bytes, words);
