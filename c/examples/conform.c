@@ -148,10 +148,16 @@ static int is_untouched(const uint8_t *from, const uint8_t *to)
     return from == to;
 }
 
-/* Memory may have any alignment. */
+/* Memory may have any alignment; for DMA every other time that of a line of a cache. */
+static uint8_t *place(void)
+{
+    uint8_t *line = room + BESIDE - (uintptr_t)room % BESIDE;
+    return next() % 2 ? line : line + next() % (BESIDE / 2);
+}
+
 static int read_sectors(uint32_t at, uint32_t count, const char *way)
 {
-    uint8_t *to = room + BESIDE / 2 + next() % (BESIDE / 2);
+    uint8_t *to = place();
     memset(room, UNTOUCHED, sizeof room);
     reads++;
     if (!expect_done("a read", kelifandro_read(&sd, KELIFANDRO_USER, own.first + at, count, to), at, count, way))
@@ -165,7 +171,7 @@ static int read_sectors(uint32_t at, uint32_t count, const char *way)
 
 static int write_sectors(uint32_t at, uint32_t count, const char *way)
 {
-    uint8_t *from = room + BESIDE / 2 + next() % (BESIDE / 2), due[512];
+    uint8_t *from = place(), due[512];
     stamp++;
     writes++;
     for (uint32_t i = 0; i < count; i++)
@@ -260,8 +266,10 @@ static void try_all(unsigned long requests)
     printf("%lu reads, %lu writes, %lu erases; %lu answers were kept back, and %lu attempts failed and were healed\n", reads, writes, erases,
            kept_back, (unsigned long)failed);
     kelifandro_close(&sd);
-    if (!own.host)
+    if (!own.host) {
+        conform_tell_registers();
         conform_take_registers_way(2); /* a call a block, by which the card's registers come then */
+    }
     if (opens("once more, after kelifandro_close"))
         all(read_sectors, "after it was opened once more");
 }

@@ -39,6 +39,7 @@ unsigned long conform_keep_back(unsigned long n);
 /* conform_registers.c: the same of registers. */
 int conform_wrap_registers(const struct conform *own, struct kelifandro *sd);
 void conform_ask_registers(void);
+void conform_tell_registers(void);
 void conform_judge_registers(void);
 
 /* The way by which the next request goes, of those that there are: told in words. */

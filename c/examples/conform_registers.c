@@ -1,5 +1,6 @@
 /* Rules of registers (conform.c): each access is passed on and looked at, and the requests go by all ways that there are: by ADMA2, by SDMA,
    through the Buffer Data Port by a call a block, and through it by words, which comes first. What goes one way comes back by another. */
+#include <stdio.h>
 #include <string.h>
 #include "conform.h"
 
@@ -21,7 +22,7 @@ static const char *const ways[] = {"by ADMA2", "by SDMA", "through the Buffer Da
 static const struct conform *own;
 static const struct kelifandro_registers *registers;
 static struct kelifandro_registers wrapped;
-static unsigned long commands, looks, ends;
+static unsigned long commands, looks, ends, asked_for, gave;
 static uint32_t check_of_lent;
 static uint64_t lent_at;
 
@@ -88,8 +89,12 @@ static uint64_t lend(void *context, void *bytes, size_t n, int is_written)
     conform_expect(!is_table || (at % 8 == 0 && (at >> 32 == 0 || lent_at >> 32)), TABLE, "%08lx%08lx, and the memory is at %08lx%08lx",
                    (unsigned long)(at >> 32), (unsigned long)(at & 0xffffffff), (unsigned long)(lent_at >> 32), (unsigned long)(lent_at & 0xffffffff));
     conform_expect(is_written || check_of(bytes, n) == before, KEPT, "lend of %lu bytes", (unsigned long)n);
-    if (!is_table)
-        lent_at = at, check_of_lent = before;
+    if (is_table)
+        return at;
+    lent_at = at;
+    check_of_lent = before;
+    asked_for++;
+    gave += at != 0;
     return at;
 }
 
@@ -153,6 +158,12 @@ void conform_ask_registers(void)
     static const uint32_t waits[] = {1, 50, 1000, 20000, 64000};
     for (size_t i = 0; i < sizeof waits / sizeof *waits; i++)
         wrapped.pause(wrapped.context, waits[i]);
+}
+
+/* What goes through the Buffer Data Port in place of DMA is right too. */
+void conform_tell_registers(void)
+{
+    printf("lend was asked for memory %lu times, and gave it %lu times\n", asked_for, gave);
 }
 
 /* What only all accesses together say. */
