@@ -311,8 +311,6 @@ APART static struct kelifandro_way begin_call(struct kelifandro *kelifandro, pla
     struct kelifandro_way way = way_of(kelifandro, at);
     call->memory = count ? (void *)memory : call->block;
     call->resets = (uint32_t)kelifandro->healed.resets;
-    call->next = NOTHING;
-    call->came = 0;
     return way;
 }
 

@@ -7,8 +7,10 @@ from tree import TOP
 START = re.compile(r"^(?:(?:abbrev|unfoldable|record|data|pub) )+([A-Za-z_][\w-]*)\b", re.M)
 IMPORT = re.compile(r"^ *(?:ghost )?use Rattle\.(\w+)\.specs\.(\w+)\.\{([^}]*)\}", re.M)
 WORD = re.compile(r"[A-Za-z_][\w-]*")
-# The calls of a device with its history, whose clause is the headline; and the trait of its bus, which says when one is kept.
-HEADLINE = [("mmc_history", name) for name in ("submit", "cancel", "turn", "close")]
+# The headline, one clause of each call of a device with its history; all clauses of these calls, with what holds beside the headline;
+# and the trait of its bus, which says when one is kept.
+HEADLINE = [("mmc_history", name) for name in ("submit.continues", "cancel.continues", "turn.continues", "open.served", "close.served")]
+DEVICE = [("mmc_history", name) for name in ("submit", "cancel", "turn", "close")]
 RELATION = [("mmc_bus", "Bus")]
 # The calls of one client without a queue.
 DIRECT = [("mmc_direct", name) for name in ("read", "write", "erase")]
@@ -45,15 +47,19 @@ def imports(path):
             for crate, file, words in IMPORT.findall(path.read_text()) for word in words.split(",")}
 
 
-def clauses(crate, function):
-    """The contract of a public function, or those of a trait's, and the file that it stands in."""
+def clauses(crate, words):
+    """The contract of a public function, or those of a trait's, and the file that it stands in; of FUNCTION.CLAUSE that clause alone."""
+    function, _, clause = words.partition(".")
+    alone = rf"\bensures {clause} \{{(?:[^{{}}]|\{{[^{{}}]*\}})*\}}"
     for path in sorted((TOP / "crates" / crate / "src").glob("*.rt")):
         text = path.read_text()
         found = re.search(rf"^pub trait {function}\b(.*?)^\}}$|^ *pub (?:\w+ )*fn {function}\b(.*?)^ *\{{$", text, re.M | re.S)
         found = found and (None, found[1] or found[2])
-        if found and re.search(r"\b(?:requires|ensures)\b", found[1]):
+        if found and clause and re.search(alone, found[1], re.S):
+            return re.search(alone, found[1], re.S)[0], path
+        if found and not clause and re.search(r"\b(?:requires|ensures)\b", found[1]):
             return " ".join(re.findall(r"(?:requires|ensures)\b(?:[^{}]|\{(?:[^{}]|\{[^{}]*\})*\})*", found[1])), path
-    raise SystemExit(f"docs/reach: {crate} has no public {function} with a contract")
+    raise SystemExit(f"docs/reach: {crate} has no public {words} with a contract")
 
 
 def named(text, own, given):

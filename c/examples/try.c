@@ -432,8 +432,10 @@ static void switches(enum way way)
     controller.is_locked = 1;
     expect(kelifandro_is_write_protected(&sd) == (by_registers ? way != BARE : KELIFANDRO_NO_HOST), "write protected, turned", way);
     controller.is_locked = 0;
+    expect(controller.misuses == 0, "what the registers allow who asks for switches", way);
     expect(kelifandro_open(&sd) == KELIFANDRO_DONE, "open", way);
     kelifandro_close(&sd);
+    expect(controller.misuses == 0, "what the registers allow who closes", way);
     expect(kelifandro_sectors(&sd, KELIFANDRO_USER) == 0 && controller.power == 0, "closed", way);
     expect(kelifandro_read(&sd, KELIFANDRO_USER, 0, 1, back) == KELIFANDRO_NOT_OPEN, "not open", way);
 }

@@ -6,7 +6,7 @@ from pathlib import Path
 
 TOP = Path(__file__).resolve().parent.parent.parent
 sys.path.insert(0, str(TOP / "docs"))
-PATHS = ["README.md", "CHANGELOG.md", "examples/README.md", *(str(path.relative_to(TOP)) for path in sorted([*TOP.glob("docs/*.md"), *TOP.glob("bench/*.md"), *TOP.glob("c/*/*.md")]))]
+PATHS = ["README.md", "CHANGELOG.md", "examples/README.md", *(str(path.relative_to(TOP)) for path in sorted([*TOP.glob("docs/*.md"), *TOP.glob("bench/*.md"), *TOP.glob("c/*/*.md"), *TOP.glob("rust/*.md")]))]
 
 
 @cache

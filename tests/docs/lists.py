@@ -2,7 +2,7 @@
 import re
 
 from documents import TOP, files, source
-from reach import HEADLINE, RELATION, reached
+from reach import DEVICE, HEADLINE, RELATION, reached
 
 
 def section(text, title):
@@ -24,9 +24,9 @@ def code_that_differs(documents):
 
 
 def definitions_that_differ(documents):
-    """The first line of a file of definitions says "Headline" exactly if the headline's clause rests on it, and "Relation" exactly if not
-    that does, but what a bus promises; docs/AUDIT.md has them by docs/write."""
-    headline = {one[:2] for one in reached(tuple(HEADLINE))}
+    """The first line of a file of definitions says "Headline" exactly if the headline or what holds beside it rests on it, and "Relation"
+    exactly if not that does, but what a bus promises; docs/AUDIT.md has them by docs/write."""
+    headline = {one[:2] for one in reached(tuple(HEADLINE + DEVICE))}
     wanted = {"Headline": headline, "Relation": {one[:2] for one in reached(tuple(RELATION))} - headline}
     for mark, reaches in wanted.items():
         due = {f"crates/{crate}/specs/{file}.antt" for crate, file in reaches}

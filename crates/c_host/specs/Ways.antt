@@ -1,7 +1,7 @@
 -- What C is told by a host of either kind.
 use Rattle.std.specs.Prelude.{◌≡◌, Bool, List, true}
 use Rattle.mmc_card.specs.declared.exchange.Lines.{Lines}
-use Rattle.mmc_host.specs.HostStates.{begun, micros_of, resting}
+use Rattle.mmc_host.specs.HostStates.{IsBetween, begun, micros_of}
 use Rattle.mmc_host.specs.Hosts.{HostView, Where, unkept_host}
 use Rattle.mmc_host.specs.declared.told.HostState.{HostState}
 use Rattle.mmc_host.specs.declared.told.Ios.{Ios}
@@ -59,25 +59,24 @@ IfFunctions (Gives.Registers registers) Holds = Unit {0}
 abbrev pub IfRegisters : {R : Type 0} → Given R → (R → Type 0) → Type 0
 IfRegisters given Holds = (registers : _) → given ≡ Gives.Registers registers → Holds registers
 
--- the host has the controller's card, and was told this; it is kept only where the controller is
-abbrev pub IsOver : ControllerView → HostState → HostView → Type 0
-IsOver controller told host =
-    Where host ((controller.is_kept ≡ true) × ((host.card ≡ controller.card) × (host.state ≡ told)))
+-- the host has the controller's card, and this is true of what it was told; it is kept only where the controller is
+abbrev pub IsOver : ControllerView → (HostState → Type 0) → HostView → Type 0
+IsOver controller Told host =
+    Where host ((controller.is_kept ≡ true) × ((host.card ≡ controller.card) × Told host.state))
 
 -- The way that was given. By functions C was told of one line and the clock of identification; by registers the host has their card, to
 -- which no command was sent.
 abbrev pub Begins : {R H : Type 0} → (R → ControllerView) → (H → HostView) → Given R → Way H → Type 0
 Begins of view (Gives.Host given) (Host functions) =
     TellsIos begun.ios given.stream.diary.past functions.stream.diary.past × (functions ≡ record given { stream = functions.stream })
-Begins of view (Gives.Registers registers) (Registers driver) = IsOver (of registers) begun (view driver)
+Begins of view (Gives.Registers registers) (Registers driver) = IsOver (of registers) (λ state. state ≡ begun) (view driver)
 Begins of view _ _ = ⊥
 
--- The same without being told anything yet, between two commands on these lines.
-abbrev pub Resumes : {R H : Type 0} → (R → ControllerView) → (H → HostView) → Lines → Given R → Way H → Type 0
-Resumes of view lines (Gives.Host given) (Host functions) = functions ≡ given
-Resumes of view lines (Gives.Registers registers) (Registers driver) =
-    IsOver (of registers) (resting lines) (view driver)
-Resumes of view lines _ _ = ⊥
+-- The same between two commands; functions weren't told anything yet.
+abbrev pub Resumes : {R H : Type 0} → (R → ControllerView) → (H → HostView) → Given R → Way H → Type 0
+Resumes of view (Gives.Host given) (Host functions) = functions ≡ given
+Resumes of view (Gives.Registers registers) (Registers driver) = IsOver (of registers) IsBetween (view driver)
+Resumes of view _ _ = ⊥
 
 -- by functions these are its limits
 abbrev pub HasLimits : {H : Type 0} → Way H → Lines → Type 0

@@ -5,8 +5,7 @@ ghost use Rattle.mmc_host.specs.Hosts.{CanBeSet, IsSlowEnough, IsWithin, Looks, 
 ghost use Rattle.mmc_host.specs.Hosts.{WritesBlock};
 ghost use Rattle.mmc_host.specs.Together.{AreAhead, AreAfter, ReadsWith, WritesWith};
 ghost use Rattle.mmc_card.specs.declared.response.Response.TheVariants.{R1};
-ghost use Rattle.mmc_sdhci.specs.Controller.{IsAtMost, lines_in};
-ghost use Rattle.mmc_sdhci.specs.Driver.{IsNew, IsReady, speed_limit};
+ghost use Rattle.mmc_sdhci.specs.Driver.{IsNew, IsReady};
 ghost use Rattle.mmc_sdhci.specs.Moving.{WhereKept};
 ghost use Rattle.c_host.specs.Kinds.{TellsWithin};
 ghost use Rattle.c_host.specs.Told.{TellsIos, TellsPause, TellsRead, TellsReadWith, TellsWrite, TellsWriteWith};
@@ -102,12 +101,14 @@ impl Given<CRegisters> {
 }
 
 impl<R: Registers + Drop> Way<Sdhci<R>> {
-    /// A host that begins with a card: on one line, at the clock of identification.
+    /// A host that begins with a card: on one line, at the clock of identification. So many data lines are wired to the slot of a
+    /// controller.
     ///
     /// # Errors
     /// Why the controller with these registers isn't ready for use.
-    pub fn begin(given: Given<R>) -> Result<Way<Sdhci<R>>, StartFault>
+    pub fn begin(given: Given<R>, wired: Width) -> Result<Way<Sdhci<R>>, StartFault>
         requires new { IfRegisters given (λ registers. IsNew (R.view registers)) }
+        requires wired { IfRegisters given (λ registers. WhereKept (R.view registers) ((R.view registers).built.wired ≡ wired)) }
         ensures told { IfOk result (λ way. HasTold ⟦<Sdhci<R> as Host>⟧.has_told way begun.ios) }
         ensures begins { IfOk result (λ way. Begins R.view ⟦<Sdhci<R> as Host>⟧.view given way) }
         ensures unkept { ((registers : R) → (R.view registers).is_kept ≡ false)
@@ -124,7 +125,7 @@ impl<R: Registers + Drop> Way<Sdhci<R>> {
                 });
                 Ok(Way::Host(functions))
             }
-            Given::Registers(registers) => match Sdhci::new(registers) {
+            Given::Registers(registers) => match Sdhci::new(registers, wired) {
                 Ok(driver) => Ok(Way::Registers(driver)),
                 Err((_, fault)) => Err(fault),
             },
@@ -135,34 +136,31 @@ impl<R: Registers + Drop> Way<Sdhci<R>> {
     ///
     /// # Errors
     /// Why the controller with these registers isn't ready for use.
-    pub fn resume(given: Given<R>, lines: Lines) -> Result<Way<Sdhci<R>>, StartFault>
+    pub fn resume(given: Given<R>, wired: Width, lines: Lines) -> Result<Way<Sdhci<R>>, StartFault>
         requires ready { IfRegisters given (λ registers. IsReady (R.view registers)) }
-        requires lines { IfRegisters given (λ registers. WhereKept (R.view registers)
-            (lines_in (R.view registers).settings.control ≡ lines)) }
-        requires clock { IfRegisters given (λ registers. WhereKept (R.view registers)
-            (IsAtMost (speed_limit lines.timing) (R.view registers))) }
-        ensures resumes { IfOk result (λ way. Resumes R.view ⟦<Sdhci<R> as Host>⟧.view lines given way) }
+        requires wired { IfRegisters given (λ registers. WhereKept (R.view registers) ((R.view registers).built.wired ≡ wired)) }
+        ensures resumes { IfOk result (λ way. Resumes R.view ⟦<Sdhci<R> as Host>⟧.view given way) }
         ensures unkept { ((registers : R) → (R.view registers).is_kept ≡ false)
             → IfOk result (λ way. (view_of ⟦<Sdhci<R> as Host>⟧.view way).is_kept ≡ false) }
         ensures functions { IfFunctions given (IsOk result) }
     {
         match given {
             Given::Host(functions) => Ok(Way::Host(functions)),
-            Given::Registers(registers) => match Sdhci::resume(registers, lines) {
+            Given::Registers(registers) => match Sdhci::resume(registers, wired, lines) {
                 Ok(driver) => Ok(Way::Registers(driver)),
                 Err((_, fault)) => Err(fault),
             },
         }
     }
 
-    /// Leaves nothing under way where something has failed, so that `resume` can go on. Functions are told nothing: what they were told
-    /// to do has ended.
-    pub fn stop(&mut self)
+    /// Ends the use for now, so that `resume` can go on: of a controller nothing is under way, and nothing is lent. Functions are told
+    /// nothing: what they were told to do has ended.
+    pub fn end(&mut self, has_failed: bool)
         ensures functions { IfHost self.old (λ functions. self.new ≡ Host functions) }
         ensures ready { IfDriven self.new (λ driver. IsReady (R.view driver.registers)) }
     {
         if let Way::Registers(driver) = self {
-            driver.stop();
+            driver.end(has_failed);
         }
     }
 }

@@ -48,7 +48,7 @@ pub fn begin<S: HasStory>(way: &WayRecord, did: &Diary) -> Result<CHost<S>, i32>
     ensures fault { IfErr result (λ number. is_unready number ≡ true) }
     ensures functions { way.now.by ≡ 0 → IsOk result }
 {
-    match Way::begin(given_by(way)) {
+    match Way::begin(given_by(way), most_by(way)) {
         Ok(host) => {
             let limits = limits_within(way, host.limits());
             Ok(StoryHost::new(host).limited(limits).after(did))
@@ -74,7 +74,7 @@ pub fn go_back<S: HasStory>(way: &WayRecord, stands: &Stands, did: &Diary) -> Re
         width: info.width,
         timing: info.timing,
     };
-    match Way::resume(given_by(way), lines) {
+    match Way::resume(given_by(way), most_by(way), lines) {
         Ok(host) => {
             let limits = limits_within(way, host.limits());
             Ok(StoryHost::resume(host, lines).limited(limits).after(did))

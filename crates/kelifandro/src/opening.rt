@@ -77,7 +77,8 @@ fn open_once<S: HasStory>(
         Ok(host) => {
             let mut bus = HostBus::new(host);
             let number = open_over(&mut bus, card, healed);
-            let (_, does) = StoryHost::ended(bus);
+            let (mut way, does) = StoryHost::ended(bus);
+            way.end(number != DONE);
             *did = does;
             number
         }

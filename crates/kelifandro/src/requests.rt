@@ -63,9 +63,7 @@ fn told<S: HasStory>(called: Result<Called<CHost<S>>, i32>, did: &mut Diary) -> 
     match left {
         Ok(bus) => {
             let (mut way, does) = StoryHost::ended(bus);
-            if let Err(NotDone::Failed(_)) = answer {
-                way.stop();
-            }
+            way.end(matches!(answer, Err(NotDone::Failed(_))));
             *did = does;
         }
         Err(host) => *did = host.diary().again(),

@@ -1,6 +1,6 @@
 -- Headline (docs/AUDIT.md, "What to read").
--- The sector machine: what clients may see of a device, request by request. It knows no frame, no state of a card, no
--- attempt and no recovery. The rules are the project's own.
+-- The sector machine with its groups: what may become of sectors and of requests, of which some wait and some are in service. It knows
+-- no frame, no state of a card, no attempt and no recovery. What clients see of it stands in Clients. The rules are the project's own.
 use Rattle.std.specs.Prelude.{◌*◌, ◌+◌, ◌++◌, ◌<◌, ◌∷◌, ◌≡◌, ◌≤◌, ◌⊎◌, List, [], false, length, true, ℕ}
 use Rattle.mmc_card.specs.declared.part.Part.{Part}
 use Rattle.mmc_card.specs.Sectors.{AreRead, IsDecided, IsIn, Same, Sector, Sets, changed, maybe_changed, pieces}

@@ -10,6 +10,7 @@ ghost use Rattle.mmc_block.specs.Answers.{any_failed, failures, is_failed};
 ghost use Rattle.mmc_block.specs.Machine.{Completes, Decides, Machine, Turns};
 ghost use Rattle.mmc_block.specs.MachineLaws.{EachOnce, KeepsValues};
 ghost use Rattle.mmc_block.specs.Changes.{change_of};
+ghost use Rattle.mmc_block.specs.ClientLaws.{ClientsSee, ClientsSeeAlone, NoneIsLost};
 ghost use Rattle.mmc_queue.specs.Group.{IsJoined};
 ghost use Rattle.mmc_queue.specs.declared.group.Group.{Group};
 ghost use Rattle.mmc_block.specs.Entries.{waits_of};
@@ -93,6 +94,22 @@ pub fn an_execution_has_its_laws()
 /// A request that is served on a card at which nothing waits is a step of the machine too, by which it is submitted and then answered.
 pub fn a_request_alone_is_a_submission_and_a_turn()
     ensures { ServesAlone }
+{}
+
+/// What clients see of an execution of the sector machine, from the opening on, is an execution of a machine that knows no groups, with
+/// the same sectors, whose requests without an answer are those that wait and those in service.
+pub fn clients_see_no_groups()
+    ensures { ClientsSee }
+{}
+
+/// The same of a request that is served on a card at which nothing waits: clients see a submission and a turn with its answer.
+pub fn clients_see_a_request_alone()
+    ensures { ClientsSeeAlone }
+{}
+
+/// As clients see it no request is lost: each that was accepted is answered or given back, or is one of those without an answer.
+pub fn no_request_is_lost()
+    ensures { NoneIsLost }
 {}
 
 /// Each sector of a card at rest is decided: no write or erase is unfinished.

@@ -1,19 +1,26 @@
 -- What a device with its history keeps true is so of a card that was opened, stays so from call to call, and tells what was served.
-use Rattle.std.proofs.Common.{[], ap, refl, subst, sym, ◌*◌, ◌++◌, ◌+◌, ◌∙◌, ◌∷◌, ◌≡◌, ◌≤◌, Bool, List, false, true}
-use Rattle.std.specs.Prelude.{Err, IfOk, Ok, OnErr, Result, reverse}
+use Rattle.std.proofs.Common.{[], ap, refl, subst, sym, ◌*◌, ◌++◌, ◌+◌, ◌∙◌, ◌∷◌, ◌≡◌, ◌≤◌, Bool, List, arith, false, length, true, ℕ}
+use Rattle.std.specs.Prelude.{◌↔◌, Err, IfOk, Ok, OnErr, Result, reverse}
 use Rattle.std.proofs.lemmas.List.{map_push, reverse-append}
 use Rattle.mmc_card.specs.BusView.{BusView}
 use Rattle.mmc_card.specs.Card.{Card, holds}
 use Rattle.mmc_card.specs.Laws.{Carried}
 use Rattle.mmc_card.specs.Sectors.{Within}
 use Rattle.mmc_block.specs.Answers.{failures}
-use Rattle.mmc_block.specs.Device.{AgreesCounted, Comes, DeviceView, IsOpened, work_of}
+use Rattle.mmc_block.specs.Device.{Agrees, AgreesCounted, Comes, DeviceView, IsOpened, unanswered_of, work_of}
 use Rattle.mmc_block.specs.Execution.{Counted, CountedSteps, Event, Follow, IsCountedExecution, Reply, opened_after}
+use Rattle.mmc_block.specs.ClientLaws.{ClientsSee, event_of, events, replies, reply_of}
+use Rattle.mmc_block.specs.Clients.{Told}
 use Rattle.mmc_block.specs.ExecutionLaws.{ExecutionLaws}
 use Rattle.mmc_block.specs.InOrder.{AreDecided, answers}
-use Rattle.mmc_block.specs.Machine.{all_failed, opened as machine_of}
-use Rattle.mmc_history.specs.History.{Continues, DeviceHistory, HasServed, Told, events, replies}
-use Rattle.mmc_history.specs.Serving.{IsServing}
+use Rattle.mmc_block.specs.Machine.{IsMerged, Machine, Waiting, all_failed, opened as machine_of}
+use Rattle.mmc_block.specs.Service.{in_service_of}
+use Rattle.mmc_block.proofs.ServiceLemmas.{merged_length}
+use Rattle.mmc_history.specs.Beside.{HoldsBeside}
+use Rattle.mmc_history.specs.Groups.{AreGrouped}
+use Rattle.mmc_history.specs.History.{Continues, DeviceHistory, HasServed}
+use Rattle.mmc_history.specs.Order.{AreInOrder}
+use Rattle.mmc_history.specs.Serving.{Agreed, IsServing}
 
 -- ---- one call more
 
@@ -40,6 +47,10 @@ carried_on old mid new first then = record {
   sizes = λ part. then.sizes part ∙ first.sizes part;
 }
 
+empty : (xs : List Waiting) → length xs ≡ 0 → xs ≡ []
+empty [] e = refl
+empty (x ∷ xs) e = absurd (omega (arith, e))
+
 module _ {B : Type 0} (view : B → BusView) (opened : BusView) where
   abbrev first : Bool → Counted
   first profile = opened_after opened.faults profile (holds opened.card)
@@ -60,60 +71,122 @@ module _ {B : Type 0} (view : B → BusView) (opened : BusView) where
     };
   }
 
-  pub serves_on : (old new : DeviceView B) (calls : List Told) (event : Event) (reply : Reply) → new.info ≡ old.info
-      → Comes view old (λ (c n : Counted). CountedSteps old.info c event reply n) new → IsServing view opened old calls
-      → IsServing view opened new (calls ++ record { event = event; reply = reply } ∷ [])
-  serves_on old new calls event reply same comes served = record {
+  pub serves_on : (old new : DeviceView B) (calls : List Told) (call : Told) → new.info ≡ old.info
+      → Comes view old (λ (c n : Counted). CountedSteps old.info c (event_of call) (reply_of call) n) new → IsServing view opened old calls
+      → IsServing view opened new (calls ++ call ∷ [])
+  serves_on old new calls call same comes served = record {
     decided = served.decided;
     carried = let before = served.agreed false (λ h. cc h) in
         carried_on opened.card (view old.bus).card (view new.bus).card served.carried
         (comes before.counted before.agrees).0.carried;
     agreed = λ profile in_profile.
         let before = served.agreed profile in_profile in
-        let call : Told = record { event = event; reply = reply } in
         let (next, step, agrees) = (comes before.counted before.agrees).1 in
-        let longer : IsCountedExecution old.info (first profile) (events calls ++ event ∷ []) (replies calls ++ reply ∷ []) next =
-        follow_then (CountedSteps old.info) (first profile) before.counted next (events calls) (replies calls) event reply before.executed step in
+        let longer : IsCountedExecution old.info (first profile) (events calls ++ event_of call ∷ []) (replies calls ++ reply_of call ∷ []) next =
+        follow_then (CountedSteps old.info) (first profile) before.counted next (events calls) (replies calls) (event_of call)
+        (reply_of call) before.executed step in
         record {
           counted = next;
           executed = subst (λ i. IsCountedExecution i (first profile) (events (calls ++ call ∷ [])) (replies (calls ++ call ∷ [])) next)
               (sym same)
               (subst (λ rs. IsCountedExecution old.info (first profile) (events (calls ++ call ∷ [])) rs next)
-              (sym (map_push (λ (t : Told). t.reply) calls call))
-              (subst (λ es. IsCountedExecution old.info (first profile) es (replies calls ++ reply ∷ []) next)
-              (sym (map_push (λ (t : Told). t.event) calls call)) longer));
+              (sym (map_push reply_of calls call))
+              (subst (λ es. IsCountedExecution old.info (first profile) es (replies calls ++ reply_of call ∷ []) next)
+              (sym (map_push event_of calls call)) longer));
           agrees = agrees;
         };
   }
 
   -- ---- what was served
 
-  pub tells : (laws : ExecutionLaws) (device : DeviceView B) (calls : List Told) → IsServing view opened device calls
-      → HasServed device.info opened (view device.bus) calls
-  tells laws device calls served =
-      let start = machine_of (holds opened.card) in
-      let now = holds (view device.bus).card in
+  -- nothing is left exactly where nothing is without an answer
+  none_left : (left waiting : ℕ) (xs : List Waiting) → (left ≡ 0) ↔ (waiting ≡ 0) → length xs ≡ waiting → (left ≡ 0) ↔ (xs ≡ [])
+  none_left left waiting xs none count =
+      (λ is. empty xs (count ∙ none.0 is), λ is. none.1 (sym count ∙ ap length is))
+
+  within_served : (device : DeviceView B) (machine : Machine) → Agrees view device machine
+      → Within (holds (view device.bus).card) (all_failed device.info machine.in_service machine.sets)
+  within_served device machine agrees =
+      subst (λ ws. Within (holds (view device.bus).card) (all_failed device.info ws machine.sets))
+      (sym {a = machine.in_service} {b = in_service_of device.service} agrees.in_service) agrees.within
+
+  -- a machine to which the calls have come, and with which the device agrees
+  pub record Met (device : DeviceView B) (calls : List Told) : Type 0 where
+    pub machine : Machine
+    pub agrees : Agrees view device machine
+    pub groups : AreGrouped device.info opened.card (view device.bus).card calls machine
+
+  met : (laws : ExecutionLaws) (device : DeviceView B) (calls : List Told) → IsServing view opened device calls → Met device calls
+  met laws device calls served =
       let plain = served.agreed false (λ h. cc h) in
-      let counted = plain.counted in
-      let agrees = plain.agrees.agrees in
-      let within : Within now (all_failed device.info counted.machine.in_service counted.machine.sets) =
-      subst (λ ws. Within now (all_failed device.info ws counted.machine.sets)) (sym agrees.in_service) agrees.within in
-      let executed = laws.counted device.info (first false) (events calls) (replies calls) counted plain.executed in
       record {
-        machine = counted.machine;
-        executed = executed;
-        contents = within;
-        in_order = laws.order device.info start (events calls) (replies calls) counted.machine served.decided refl refl executed;
-        ends = λ idle contents may_hold.
-            laws.ends device.info start (events calls) (replies calls) counted.machine now contents served.decided refl refl executed
-            (subst (λ ws. Within now (all_failed device.info ws counted.machine.sets)) idle within) may_hold;
-        made = served.carried.made;
-        sizes = served.carried.sizes;
-        four_each = λ profile.
-            let four = served.agreed true (λ h. profile) in
-            let all = laws.faults device.info (first true) (events calls) (replies calls) four.counted refl refl refl
-            four.executed in
-            subst (λ n. opened.faults + 4 * failures (answers (replies calls)) ≤ n) four.agrees.faults all;
+        machine = plain.counted.machine;
+        agrees = plain.agrees.agrees;
+        groups = record {
+          executed = laws.counted device.info (first false) (events calls) (replies calls) plain.counted plain.executed;
+          contents = within_served device plain.counted.machine plain.agrees.agrees;
+        };
+      }
+
+  -- as many are without an answer
+  count_met : (device : DeviceView B) (machine : Machine) (outstanding : List Waiting) → Agrees view device machine
+      → IsMerged outstanding machine.in_service machine.waits → length outstanding ≡ unanswered_of device
+  count_met device machine outstanding agrees merged =
+      let all = merged_length outstanding machine.in_service machine.waits merged in
+      let waits = ap length agrees.waits in
+      let in_service = ap length agrees.in_service in
+      omega (arith, all, waits, in_service)
+
+  tells_met : (see : ClientsSee) (device : DeviceView B) (calls : List Told) (none : (work_of device ≡ 0) ↔ (unanswered_of device ≡ 0))
+      → Carried opened.card (view device.bus).card → Met device calls
+      → HasServed device.info opened.card (view device.bus).card calls (work_of device)
+  tells_met see device calls none carried it =
+      let clients = see device.info (holds opened.card) calls it.machine it.groups.executed in
+      record {
+        machine = clients.seen;
+        executed = clients.executed;
+        contents = λ p s v h. clients.contents p s v (it.groups.contents p s v h);
+        answered = none_left (work_of device) (unanswered_of device) clients.seen.outstanding none
+            (count_met device it.machine clients.seen.outstanding it.agrees clients.outstanding);
+        carried = (carried.made, carried.sizes);
+      }
+
+  pub tells : (laws : ExecutionLaws) (see : ClientsSee) (device : DeviceView B) (calls : List Told)
+      → (work_of device ≡ 0) ↔ (unanswered_of device ≡ 0) → IsServing view opened device calls
+      → HasServed device.info opened.card (view device.bus).card calls (work_of device)
+  tells laws see device calls none served = tells_met see device calls none served.carried (met laws device calls served)
+
+  -- ---- and what holds beside
+
+  failures_take_faults : (laws : ExecutionLaws) (device : DeviceView B) (calls : List Told) → Agreed view opened device calls true
+      → opened.faults + 4 * failures (answers (replies calls)) ≤ (view device.bus).faults
+  failures_take_faults laws device calls four =
+      let all = laws.faults device.info (first true) (events calls) (replies calls) four.counted refl refl refl four.executed in
+      subst (λ n. opened.faults + 4 * failures (answers (replies calls)) ≤ n) four.agrees.faults all
+
+  in_order : (laws : ExecutionLaws) (device : DeviceView B) (calls : List Told) → AreDecided (holds opened.card)
+      → (it : Met device calls) → AreInOrder device.info opened.card (view device.bus).card calls it.machine
+  in_order laws device calls decided it = record {
+    reads = laws.order device.info (machine_of (holds opened.card)) (events calls) (replies calls) it.machine decided refl refl
+        it.groups.executed;
+    ends = λ idle contents may_hold.
+        laws.ends device.info (machine_of (holds opened.card)) (events calls) (replies calls) it.machine
+        (holds (view device.bus).card) contents decided refl refl it.groups.executed
+        (subst (λ ws. Within (holds (view device.bus).card) (all_failed device.info ws it.machine.sets)) idle it.groups.contents)
+        may_hold;
+  }
+
+  pub tells_beside : (laws : ExecutionLaws) (see : ClientsSee) (device : DeviceView B) (calls : List Told)
+      → IsServing view opened device calls → HoldsBeside device.info opened (view device.bus) calls
+  tells_beside laws see device calls served =
+      let it = met laws device calls served in
+      let clients = see device.info (holds opened.card) calls it.machine it.groups.executed in
+      record {
+        failures = λ profile. failures_take_faults laws device calls (served.agreed true (λ h. profile));
+        refusals = (clients.seen, clients.refusing);
+        machine = it.machine;
+        groups = it.groups;
+        in_order = in_order laws device calls served.decided it;
       }
 
   -- ---- a call of the device
@@ -129,26 +202,26 @@ module _ {B : Type 0} (view : B → BusView) (opened : BusView) where
   }
 
   -- a call came to this with the device, and was noted
-  pub goes_on : (event : Event) (reply : Reply) (old new : DeviceView B) (past longer : List Told)
-      → longer ≡ record { event = event; reply = reply } ∷ past → new.info ≡ old.info
+  pub goes_on : (call : Told) (old new : DeviceView B) (past longer : List Told) → longer ≡ call ∷ past → new.info ≡ old.info
       → ((view new.bus).is_kept ≡ true → (view old.bus).is_kept ≡ true)
-      → ((view new.bus).is_kept ≡ true → Comes view old (λ (c n : Counted). CountedSteps old.info c event reply n) new)
+      → ((view new.bus).is_kept ≡ true → Comes view old (λ (c n : Counted). CountedSteps old.info c (event_of call) (reply_of call) n) new)
       → ((view old.bus).is_kept ≡ true → IsServing view opened old (reverse past))
       → (view new.bus).is_kept ≡ true → IsServing view opened new (reverse longer)
-  goes_on event reply old new past longer noted info kept comes served now =
-      subst (IsServing view opened new) (sym (ap reverse noted ∙ one_more (record { event = event; reply = reply }) past))
-      (serves_on old new (reverse past) event reply info (comes now) (served (kept now)))
+  goes_on call old new past longer noted info kept comes served now =
+      subst (IsServing view opened new) (sym (ap reverse noted ∙ one_more call past))
+      (serves_on old new (reverse past) call info (comes now) (served (kept now)))
 
-  pub continues : (laws : ExecutionLaws) (event : Event) (reply : Reply) (old new : DeviceView B) (past longer : List Told)
-      (shown : DeviceHistory B) → seen old past ≡ shown → longer ≡ record { event = event; reply = reply } ∷ past
-      → new.info ≡ old.info → ((view new.bus).is_kept ≡ true → IsServing view opened new (reverse longer))
-      → Continues view shown event reply (seen new longer)
-  continues laws event reply old new past longer shown is noted info served =
-      subst (λ before. Continues view before event reply (seen new longer)) is (record {
-        calls = ap reverse noted ∙ one_more (record { event = event; reply = reply }) past;
+  pub continues : (laws : ExecutionLaws) (see : ClientsSee) (call : Told) (old new : DeviceView B) (past longer : List Told)
+      (shown : DeviceHistory B) → seen old past ≡ shown → longer ≡ call ∷ past → new.info ≡ old.info
+      → (work_of new ≡ 0) ↔ (unanswered_of new ≡ 0)
+      → ((view new.bus).is_kept ≡ true → IsServing view opened new (reverse longer))
+      → Continues view shown call (seen new longer)
+  continues laws see call old new past longer shown is noted info none served =
+      subst (λ before. Continues view before call (seen new longer)) is (record {
+        calls = ap reverse noted ∙ one_more call past;
         info = info;
         opened = refl;
-        served = λ now. tells laws new (reverse longer) (served now);
+        served = λ now. tells laws see new (reverse longer) none (served now);
       })
 
 -- ---- what stays in a call that makes no exchange

@@ -4,10 +4,11 @@ use Rattle.mmc_card.specs.BusView.{BusView}
 use Rattle.mmc_card.specs.Card.{holds}
 use Rattle.mmc_card.specs.Laws.{Carried}
 use Rattle.mmc_card.specs.Profile.{InProfile}
+use Rattle.mmc_block.specs.ClientLaws.{events, replies}
+use Rattle.mmc_block.specs.Clients.{Told}
 use Rattle.mmc_block.specs.Device.{AgreesCounted, DeviceView}
 use Rattle.mmc_block.specs.Execution.{Counted, IsCountedExecution, opened_after}
 use Rattle.mmc_block.specs.InOrder.{AreDecided}
-use Rattle.mmc_history.specs.History.{Told, events, replies}
 
 -- where the card is in profile, if that is asked for
 pub record Agreed {B : Type 0} (view : B → BusView) (opened : BusView) (device : DeviceView B) (calls : List Told) (profile : Bool)

@@ -1,10 +1,8 @@
 // What proofs note of a call. Nothing here has bytes, or does anything at run time.
 ghost use Rattle.std.specs.Borrow.{ftrue};
-ghost use Rattle.mmc_block.specs.Execution.{cancelled_reply, submitted_reply};
-ghost use Rattle.mmc_block.specs.Execution.Event.{Cancel, Submit, Turn};
-ghost use Rattle.mmc_block.specs.Execution.Reply.{Answers};
+ghost use Rattle.mmc_block.specs.Clients.{Told};
+ghost use Rattle.mmc_block.specs.Clients.Told.{Answered, Cancelled, Submitted};
 ghost use Rattle.mmc_card.specs.BusView.{BusView};
-ghost use Rattle.mmc_history.specs.History.{Told};
 
 use ghost_diary::{Noted, Seen};
 use mmc_block::{Bus, CancelFault, Completions, Refused, Request, Ticket};
@@ -57,7 +55,7 @@ pub(crate) struct Submission<'a> {
 }
 
 impl Noted<Call> for Submission<'_> {
-    ghost says = { λ call. record { event = Submit call.client call.request.now; reply = submitted_reply call.reply.now } };
+    ghost says = { λ call. Submitted call.client call.request.now call.reply.now };
 }
 
 // A cancellation.
@@ -68,7 +66,7 @@ pub(crate) struct Cancellation<'a> {
 }
 
 impl Noted<Call> for Cancellation<'_> {
-    ghost says = { λ call. record { event = Cancel call.ticket; reply = cancelled_reply call.reply.now } };
+    ghost says = { λ call. Cancelled call.ticket call.reply.now };
 }
 
 // A turn.
@@ -78,5 +76,5 @@ pub(crate) struct Turned<'a> {
 }
 
 impl Noted<Call> for Turned<'_> {
-    ghost says = { λ call. record { event = Turn; reply = Answers call.answers.now.items } };
+    ghost says = { λ call. Answered call.answers.now.items };
 }

@@ -25,7 +25,7 @@ use Rattle.mmc_host.specs.Together.{HostRead, HostRested, passed}
 use Rattle.mmc_host.specs.declared.data.Data.{Data}
 use Rattle.mmc_host.specs.declared.told.HostState.{HostState}
 use Rattle.mmc_sdhci.proofs.Hosting.{same_bus}
-use Rattle.mmc_sdhci.specs.Controller.{ControllerView, Settled, limits_in, lines_in, seen}
+use Rattle.mmc_sdhci.specs.Controller.{ControllerView, Settled, limits_of, lines_in, seen}
 use Rattle.mmc_sdhci.specs.DmaLooks.{AllMoved, BlockComes, BlockGoes, CardRests, HaveCome, HaveGone, OneIsLost, SomeMoved, StepsAlone}
 use Rattle.mmc_sdhci.specs.DmaLooks.{none_came, one_came}
 use Rattle.mmc_sdhci.specs.Driver.{host_over}
@@ -220,7 +220,7 @@ module _ {S : Type 0} (blocks : S → List (List ℕ)) (leave : S → ℕ → Li
     (full : count ≡ length (blocks was)) (asked : after.transfer ≡ Data.Read 512 count)
     (under_way : WhereKept v1 (v1.transfer ≡ Data.Read 512 count))
     (lines : WhereKept v1 (lines_in v1.settings.control ≡ lines_of after.ios))
-    (most : WhereKept v1 (limits_in v1.built.capabilities ≡ limits)) (taken : TakesBack leave v2 was count now v3) where
+    (most : WhereKept v1 (limits_of v1.built ≡ limits)) (taken : TakesBack leave v2 was count now v3) where
   abbrev between : HostView
   between = host_over v1 after limits
 
@@ -384,7 +384,7 @@ module _ (blocks : List (List ℕ)) (v1 v2 v3 : ControllerView) (after : HostSta
     (full : count ≡ length blocks) (asked : after.transfer ≡ Data.Write count)
     (under_way : WhereKept v1 (v1.transfer ≡ Data.Write count)) (lent : WhereKept v1 (blocks_to_go v1.dma.lent ≡ blocks))
     (lines : WhereKept v1 (lines_in v1.settings.control ≡ lines_of after.ios))
-    (most : WhereKept v1 (limits_in v1.built.capabilities ≡ limits)) (back : Settled v2 (v3 ≡ unlent v2) v3) where
+    (most : WhereKept v1 (limits_of v1.built ≡ limits)) (back : Settled v2 (v3 ≡ unlent v2) v3) where
   abbrev after_it : HostView
   after_it = host_over v1 after limits
 

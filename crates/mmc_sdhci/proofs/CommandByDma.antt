@@ -28,7 +28,7 @@ use Rattle.mmc_host.specs.declared.told.ResponseFault.{ResponseFault}
 use Rattle.mmc_sdhci.proofs.Hosting.{sent_over}
 use Rattle.mmc_sdhci.specs.Commands as Command
 use Rattle.mmc_sdhci.specs.Commands.{KeepsLent}
-use Rattle.mmc_sdhci.specs.Controller.{Built, ControllerView, Settings, Settled, has_data, limits_in, lines_in}
+use Rattle.mmc_sdhci.specs.Controller.{Built, ControllerView, Settings, Settled, has_data, limits_of, lines_in}
 use Rattle.mmc_sdhci.specs.Driver.{StaysHost, host_over}
 use Rattle.mmc_sdhci.specs.Finishing.{Finishes, IsLentFor, IsMoving, MovesAfter, MovesWith, Prepares, ended}
 use Rattle.mmc_sdhci.specs.Lending.{Lends, TakesBack, unlent}
@@ -66,7 +66,7 @@ sends_then h0 h1 h2 command heard sends stays kept =
 module _ (v0 v1 v2 : ControllerView) (lent : Lent) (start : ℕ) (state : HostState) (limits : Lines) (command : HostCommand)
     (heard : Result Heard ResponseFault) (count : ℕ) (moved : Moved DataIn)
     (lines : WhereKept v0 (lines_in v0.settings.control ≡ lines_of state.ios))
-    (most : WhereKept v0 (limits_in v0.built.capabilities ≡ limits)) (lends : Lends v0 lent (Some start) v1)
+    (most : WhereKept v0 (limits_of v0.built ≡ limits)) (lends : Lends v0 lent (Some start) v1)
     (moves : MovesWith v1 command heard count moved v2) where
   abbrev command_sent : ControllerView
   command_sent = moves.between
@@ -80,12 +80,12 @@ module _ (v0 v1 v2 : ControllerView) (lent : Lent) (start : ℕ) (state : HostSt
       let m = lends p.0 in
       p.1.lines ∙ (ap (λ (v : ControllerView). lines_in v.settings.control) m.1 ∙ lines m.0)
 
-  limited : WhereKept moves.set (limits_in moves.set.built.capabilities ≡ limits)
+  limited : WhereKept moves.set (limits_of moves.set.built ≡ limits)
   limited kept =
       let p = moves.prepared kept in
       let m = lends p.0 in
-      ap (λ (v : ControllerView). limits_in v.built.capabilities) p.1.same
-      ∙ (ap (λ (v : ControllerView). limits_in v.built.capabilities) m.1 ∙ most m.0)
+      ap (λ (v : ControllerView). limits_of v.built) p.1.same
+      ∙ (ap (λ (v : ControllerView). limits_of v.built) m.1 ∙ most m.0)
 
   pub sent_first : Sends (host_over v0 state limits) command heard (host_over command_sent after_command limits)
   sent_first =
@@ -97,8 +97,8 @@ module _ (v0 v1 v2 : ControllerView) (lent : Lent) (start : ℕ) (state : HostSt
   lined_after kept =
       let s = moves.sent kept in ap (λ (t : Settings). lines_in t.control) s.1.settings ∙ lined s.0
 
-  pub limited_after : WhereKept command_sent (limits_in command_sent.built.capabilities ≡ limits)
-  limited_after kept = let s = moves.sent kept in ap (λ (b : Built). limits_in b.capabilities) s.1.built ∙ limited s.0
+  pub limited_after : WhereKept command_sent (limits_of command_sent.built ≡ limits)
+  limited_after kept = let s = moves.sent kept in ap (λ (b : Built). limits_of b) s.1.built ∙ limited s.0
 
   pub under_way_after : is_ok heard ≡ true → WhereKept command_sent (command_sent.transfer ≡ command.transfer)
   under_way_after ok kept =
@@ -163,7 +163,7 @@ word_heard response index (Ok heard) one ok word silent =
 module _ {S : Type 0} (blocks : S → List (List ℕ)) (leave : S → ℕ → List ℕ → S) (one : WritesOne blocks leave) (was now : S)
     (v0 v1 v2 v3 : ControllerView) (start : ℕ) (state : HostState) (limits : Lines) (command : HostCommand) (count : ℕ)
     (lines : WhereKept v0 (lines_in v0.settings.control ≡ lines_of state.ios))
-    (most : WhereKept v0 (limits_in v0.built.capabilities ≡ limits)) (lends : Lends v0 (Room count) (Some start) v1)
+    (most : WhereKept v0 (limits_of v0.built ≡ limits)) (lends : Lends v0 (Room count) (Some start) v1)
     (taken : TakesBack leave v2 was count now v3) (some : 1 ≤ count) (full : count ≡ length (blocks was))
     (asked : command.transfer ≡ Data.Read 512 count) where
   pub reads_by_dma : (heard : Result Heard ResponseFault) (moved : Moved DataIn) → MovesWith v1 command heard count moved v2
@@ -217,7 +217,7 @@ told (Move.Failed got) = Move.Failed Went.Nothing
 
 module _ (blocks : List (List ℕ)) (v0 v1 v2 v3 : ControllerView) (start : ℕ) (state : HostState) (limits : Lines) (command : HostCommand)
     (count : ℕ) (lines : WhereKept v0 (lines_in v0.settings.control ≡ lines_of state.ios))
-    (most : WhereKept v0 (limits_in v0.built.capabilities ≡ limits)) (lends : Lends v0 (ToGo blocks) (Some start) v1)
+    (most : WhereKept v0 (limits_of v0.built ≡ limits)) (lends : Lends v0 (ToGo blocks) (Some start) v1)
     (back : Settled v2 (v3 ≡ unlent v2) v3) (some : 1 ≤ count) (full : count ≡ length blocks)
     (asked : command.transfer ≡ Data.Write count) (response : command.response ≡ To.R1) where
   pub writes_by_dma : (heard : Result Heard ResponseFault) (moved : Moved DataIn) → IfOk heard Command.IsWord

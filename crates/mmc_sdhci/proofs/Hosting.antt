@@ -11,7 +11,7 @@ use Rattle.mmc_host.specs.declared.told.HostCommand.{HostCommand}
 use Rattle.mmc_host.specs.declared.told.HostState.{HostState}
 use Rattle.mmc_host.specs.declared.told.ResponseFault.{ResponseFault}
 use Rattle.mmc_sdhci.specs.Commands.{Sends}
-use Rattle.mmc_sdhci.specs.Controller.{Built, ControllerView, Settings, limits_in, lines_in, seen}
+use Rattle.mmc_sdhci.specs.Controller.{Built, ControllerView, Settings, limits_of, lines_in, seen}
 use Rattle.mmc_sdhci.specs.Driver.{host_over}
 use Rattle.mmc_sdhci.specs.Moving.{WhereKept}
 
@@ -29,15 +29,15 @@ over_lines view lines limits =
     }
 
 pub same_bus : (view : ControllerView) (state : HostState) (limits : Lines)
-    → lines_in view.settings.control ≡ lines_of state.ios → limits_in view.built.capabilities ≡ limits
+    → lines_in view.settings.control ≡ lines_of state.ios → limits_of view.built ≡ limits
     → seen view ≡ bus_of (host_over view state limits)
 same_bus view state limits lines most =
-    ap (λ (l : Lines). over_lines view l (limits_in view.built.capabilities)) lines
+    ap (λ (l : Lines). over_lines view l (limits_of view.built)) lines
     ∙ ap (λ (l : Lines). over_lines view (lines_of state.ios) l) most
 
 pub sent_over : (v0 v1 : ControllerView) (state after : HostState) (limits : Lines) (command : HostCommand)
     (heard : Result Heard ResponseFault) → WhereKept v0 (lines_in v0.settings.control ≡ lines_of state.ios)
-    → WhereKept v0 (limits_in v0.built.capabilities ≡ limits) → after ≡ sent state command (is_ok heard) → Sends v0 command heard v1
+    → WhereKept v0 (limits_of v0.built ≡ limits) → after ≡ sent state command (is_ok heard) → Sends v0 command heard v1
     → HostSends (host_over v0 state limits) command heard (host_over v1 after limits)
 sent_over v0 v1 state after limits command heard lines most is sends kept =
     let s = sends kept in
@@ -46,7 +46,7 @@ sent_over v0 v1 state after limits command heard lines most is sends kept =
     same_bus v1 after limits
     (ap (λ (t : Settings). lines_in t.control) s.1.settings
     ∙ (lines s.0 ∙ sym (ap (λ (t : HostState). lines_of t.ios) is)))
-    (ap (λ (b : Built). limits_in b.capabilities) s.1.built ∙ most s.0) in
+    (ap (λ (b : Built). limits_of b) s.1.built ∙ most s.0) in
     record {
       state = is;
       limits = refl;

@@ -7,6 +7,7 @@ pub mod Glancing
 pub mod Hosting
 pub mod Limits
 pub mod Looking
+pub mod Losing
 pub mod Placing
 pub mod Putting
 pub mod Ranges

@@ -1,16 +1,18 @@
 -- Lines within Capabilities.
-use Rattle.std.proofs.Common.{◌≡◌, ◌≤◌, ◌∙◌, Bool, Some, ap, arith, false, refl, true, ℕ}
+use Rattle.std.proofs.Common.{◌≡◌, ◌≤◌, ◌∙◌, Bool, Some, ap, arith, false, refl, subst, sym, true, ℕ}
 use Rattle.std.specs.Prelude.{◌&&◌, ◌==◌, ◌||◌, bit_and, if◌then◌else◌, is_none, not}
 use Rattle.std.proofs.lemmas.Bool.{eq-eqb}
 use Rattle.mmc_frame.specs.Field.{field}
+use Rattle.mmc_card.specs.Limits.{fewer}
 use Rattle.mmc_card.specs.declared.exchange.Lines.{Lines}
 use Rattle.mmc_card.specs.declared.exchange.Timing.TheVariants.{Default, High}
+use Rattle.mmc_card.specs.declared.exchange.Width.{Width}
 use Rattle.mmc_card.specs.declared.exchange.Width.TheVariants.{Eight, Four, One}
 use Rattle.mmc_host.specs.Hosts.{IsWithin, lines_number}
 use Rattle.mmc_host.specs.declared.data.Data.{Data}
 use Rattle.mmc_sdhci.specs.Accesses.{is_able, is_at_rest, is_selected, may_write8}
 use Rattle.mmc_sdhci.specs.Commands.{selection}
-use Rattle.mmc_sdhci.specs.Controller.{ControllerView, has_data, is_settled, is_still, limits_in, lines_in}
+use Rattle.mmc_sdhci.specs.Controller.{Built, ControllerView, has_data, is_settled, is_still, limits_in, limits_of, lines_in}
 use Rattle.mmc_sdhci.specs.DataLooks.{is_empty}
 use Rattle.mmc_sdhci.specs.Finishing.{Reaches}
 use Rattle.mmc_sdhci.specs.declared.dma.Dma.{Dma}
@@ -105,12 +107,31 @@ may_set view control rests idle alone able_is selected =
     ∙ (ap (λ (b : Bool). b && (is_able view.built.capabilities view.settings.control control && is_selected view.built.capabilities control)) (eq-eqb _ _ alone)
     ∙ (ap (λ (b : Bool). b && is_selected view.built.capabilities control) able_is ∙ selected))))
 
+few : (a b : Width) → lines_number (fewer a b) ≤ lines_number b
+few One One = omega arith
+few One Four = omega arith
+few One Eight = omega arith
+few Four One = omega arith
+few Four Four = omega arith
+few Four Eight = omega arith
+few Eight b = omega arith
+
+-- what is wired is no more than the controller has
+had : (built : Built) (lines : Lines) → IsWithin lines (limits_of built) → IsWithin lines (limits_in built.capabilities)
+had built lines within =
+    let w = within.0 in let f = few built.wired (limits_in built.capabilities).width in (omega (arith, w, f), within.1)
+
+pub within_as : (built : Built) {lines wanted : Lines} → lines ≡ wanted → IsWithin wanted (limits_of built)
+    → IsWithin lines (limits_of built)
+within_as built {lines} {wanted} same within = subst (λ (l : Lines). IsWithin l (limits_of built)) (sym same) within
+
 -- the lines that a host may be told
 pub may_control : (view : ControllerView) (control : ℕ) → is_at_rest view ≡ true → view.transfer ≡ Data.Nothing
-    → bit_and control 0x3e ≡ control → field 4 3 control ≡ 0 → IsWithin (lines_in control) (limits_in view.built.capabilities)
+    → bit_and control 0x3e ≡ control → field 4 3 control ≡ 0 → IsWithin (lines_in control) (limits_of view.built)
     → may_write8 view 0x28 control ≡ true
 may_control view control rests idle alone port within =
-    may_set view control rests idle alone (able control view.settings.control view.built.capabilities within)
+    may_set view control rests idle alone
+    (able control view.settings.control view.built.capabilities (had view.built (lines_in control) within))
     (selects_port view.built.capabilities control port)
 
 -- those that are set, with DMA

@@ -23,6 +23,10 @@ abbrev pub starting_anew : Option ℕ → Option ℕ
 starting_anew None = None
 starting_anew (Some waited) = Some 0
 
+-- the card starts once it is given power
+abbrev pub starting_with : ℕ → Option ℕ
+starting_with power = if power == 0 then None else Some 0
+
 -- the registers after a write of 32 bits
 abbrev pub written : ControllerView → ℕ → ℕ → ControllerView
 written old offset value =
@@ -169,8 +173,8 @@ is_selected capabilities control =
     || ((field 19 19 capabilities == 1)
     && ((field 4 3 control == 2) || ((field 4 3 control == 3) && (field 28 28 capabilities == 1))))
 
--- And of 8 bits: lines, high speed and ADMA2 alone, as far as there are such (28h), 3.3 V (29h), and resets (2Fh) of the command line
--- and of the data line. The whole controller is reset before the card has power, for the card loses it.
+-- And of 8 bits: lines, high speed and ADMA2 alone, as far as there are such (28h), 3.3 V or no power (29h), and resets (2Fh) of the
+-- command line and of the data line. The whole controller is reset while the card has no power, for the card loses it.
 abbrev pub may_write8 : ControllerView → ℕ → ℕ → Bool
 may_write8 view offset value =
     if offset == 0x28 then
@@ -178,7 +182,7 @@ may_write8 view offset value =
     && (is_settled view
     && ((bit_and value 0x3e == value)
     && (is_able view.built.capabilities view.settings.control value && is_selected view.built.capabilities value)))
-    else (if offset == 0x29 then is_idle view && (value == 0x0f)
+    else (if offset == 0x29 then is_idle view && ((value == 0x0f) || (value == 0))
     else (if offset == 0x2f then
     (value == 2) || ((value == 4) || ((value == 1) && (is_at_rest view && (is_idle view && (view.settings.power == 0)))))
     else false))
@@ -311,12 +315,12 @@ Drops old new = DropsBy old.dma.is_moving old new
 abbrev pub ResetBegins : ControllerView → ControllerView → Type 0
 ResetBegins after new = new ≡ record after { resetting = Some 0 }
 
--- Host Control 1 (28h); Power Control (29h), after which the card starts; Software Reset (2Fh): bit 0 all, bit 1 the command line,
--- bit 2 the data line.
+-- Host Control 1 (28h); Power Control (29h), after which the card starts, or has no power: that it has lost it shows as a fault of the
+-- next exchange; Software Reset (2Fh): bit 0 all, bit 1 the command line, bit 2 the data line.
 pub record Does8 (old : ControllerView) (offset value : ℕ) (new : ControllerView) : Type 0 where
   pub control : offset ≡ 0x28 → new ≡ record old { settings = record old.settings { control = value } }
   pub power : offset ≡ 0x29
-      → new ≡ record old { settings = record old.settings { power = value; starting = Some 0 } }
+      → new ≡ record old { settings = record old.settings { power = value; starting = starting_with value } }
   pub restart : offset ≡ 0x2f → value ≡ 1 → ResetBegins (restarted old) new
   pub command : offset ≡ 0x2f → value ≡ 2
       → (after : ControllerView) × Dropped old old.running after × ResetBegins after new

@@ -8,8 +8,10 @@ use Rattle.std.specs.Prelude.{Bool, List, None, Option, bit_and, false, if◌the
 use Rattle.mmc_frame.specs.Field.{field}
 use Rattle.mmc_card.specs.BusView.{BusView}
 use Rattle.mmc_card.specs.Card.{Card}
+use Rattle.mmc_card.specs.Limits.{fewer}
 use Rattle.mmc_card.specs.declared.exchange.Lines.{Lines}
 use Rattle.mmc_card.specs.declared.exchange.Timing.TheVariants.{Default, High}
+use Rattle.mmc_card.specs.declared.exchange.Width.{Width}
 use Rattle.mmc_card.specs.declared.exchange.Width.TheVariants.{Eight, Four, One}
 use Rattle.mmc_bus.specs.Exchanges.{Kept}
 use Rattle.mmc_host.specs.declared.data.Data.{Data}
@@ -23,10 +25,12 @@ pub record Running : Type 0 where
   pub flags : ℕ
   pub transfer : Data
 
--- What is built in: Capabilities (40h), and the version of the specification (FEh: 0 is 1.00, 1 is 2.00, 2 is 3.00).
+-- What is built in: Capabilities (40h), the version of the specification (FEh: 0 is 1.00, 1 is 2.00, 2 is 3.00), and the most data
+-- lines that are wired to the slot, of which no register tells.
 pub record Built : Type 0 where
   pub capabilities : ℕ
   pub version : ℕ
+  pub wired : Width
 
 -- What is set: Host Control 1 (28h), Power Control (29h), Clock Control (2Ch), Timeout Control (2Eh), and which interrupts are shown
 -- (34h, 36h).
@@ -94,6 +98,14 @@ limits_in capabilities =
       timing = if field 21 21 capabilities == 1 then High else Default;
     }
 
+-- no more lines than these
+abbrev pub limits_within : Width → Lines → Lines
+limits_within wired limits = record limits { width = fewer wired limits.width }
+
+-- as many lines as the controller has and the slot
+abbrev pub limits_of : Built → Lines
+limits_of built = limits_within built.wired (limits_in built.capabilities)
+
 -- the base clock in MHz: bits 15 to 8 of Capabilities. Before version 3.00 bits 15 and 14 are reserved: where one is set it isn't told.
 abbrev pub base_clock : ℕ → ℕ → ℕ
 base_clock capabilities version =
@@ -117,7 +129,7 @@ seen view =
     record {
       card = view.card;
       lines = lines_in view.settings.control;
-      limits = limits_in view.built.capabilities;
+      limits = limits_of view.built;
       last = None;
       exchanges = 0;
       faults = view.faults;

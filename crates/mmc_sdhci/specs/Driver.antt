@@ -1,16 +1,20 @@
 -- The driver as a host, and what it knows of its controller.
-use Rattle.std.specs.Prelude.{[], ◌%◌, ◌==◌, ◌≡◌, Bool, None, false, if◌then◌else◌, true, ℕ}
+use Rattle.std.specs.Prelude.{[], ◌%◌, ◌&&◌, ◌+◌, ◌==◌, ◌≡◌, ◌≤◌, Bool, None, false, if◌then◌else◌, is_none, not, true, ℕ}
 use Rattle.mmc_frame.specs.Field.{field}
-use Rattle.mmc_card.specs.Card.{powered_on}
+use Rattle.mmc_card.specs.Card.{IsCard, holds, powered_on}
+use Rattle.mmc_card.specs.Laws.{Carried, StillStands}
+use Rattle.mmc_card.specs.Sectors.{Within}
 use Rattle.mmc_card.specs.declared.exchange.Lines.{Lines}
 use Rattle.mmc_card.specs.declared.exchange.Timing.{Timing}
 use Rattle.mmc_card.specs.declared.exchange.Timing.TheVariants.{Default, High}
+use Rattle.mmc_card.specs.declared.exchange.Width.TheVariants.{Eight}
 use Rattle.mmc_bus.specs.Wires.{nothing_made}
+use Rattle.mmc_host.specs.HostStates.{lines_of}
 use Rattle.mmc_host.specs.Hosts.{HostView, Where}
 use Rattle.mmc_host.specs.declared.data.Data.{Data}
 use Rattle.mmc_host.specs.declared.told.HostState.{HostState}
 use Rattle.mmc_host.specs.declared.told.Ios.{Ios}
-use Rattle.mmc_sdhci.specs.Controller.{ControllerView, IsAtMost, Settled, base_clock, clock_runs, is_set, is_settled}
+use Rattle.mmc_sdhci.specs.Controller.{ControllerView, IsAtMost, Settled, base_clock, clock_runs, has_data, is_set, is_settled, is_still, lines_in}
 use Rattle.mmc_sdhci.specs.Accesses.{is_at_rest, restarted, starting_anew}
 use Rattle.mmc_sdhci.specs.Lent.{nothing_lent}
 use Rattle.mmc_sdhci.specs.Moving.{WhereKept}
@@ -27,6 +31,19 @@ host_over view state limits =
       faults = view.faults;
       may_fall = view.may_fall;
       is_kept = view.is_kept;
+    }
+
+-- it was told lines and clock so
+abbrev pub told_so : HostState → Ios → HostState
+told_so state told = record state { ios = told }
+
+-- lines as they are set, and the clock of data
+abbrev pub ios_in : ControllerView → Ios
+ios_in view =
+    record {
+      width = (lines_in view.settings.control).width;
+      timing = (lines_in view.settings.control).timing;
+      is_identifying = false;
     }
 
 -- nothing has happened
@@ -61,19 +78,43 @@ SetsClock old most new =
       };
     }))) new
 
--- no command was sent so far, and the card has no power
-abbrev pub IsNew : ControllerView → Type 0
-IsNew view =
-    WhereKept view ((is_at_rest view ≡ true) × ((view.transfer ≡ Data.Nothing) × (view.settings.power ≡ 0)))
-
--- between two commands, with all set that they need
-abbrev pub IsReady : ControllerView → Type 0
-IsReady view =
-    WhereKept view ((is_at_rest view ≡ true) × ((view.transfer ≡ Data.Nothing) × (is_set view.settings ≡ true)))
+-- and the lines with it
+abbrev pub SetsLines : ControllerView → Ios → ControllerView → Type 0
+SetsLines old ios new =
+    Settled old
+    ((lines_in new.settings.control ≡ lines_of ios)
+    × (IsAtMost (clock_limit ios) new
+    × ((clock_runs new.settings.clock ≡ true)
+    × (new ≡ record old {
+      settings = record old.settings {
+        control = new.settings.control;
+        clock = new.settings.clock;
+        timeout = 0x0e;
+        stabilizing = None;
+        starting = starting_anew old.settings.starting;
+      };
+    })))) new
 
 -- no command runs, and no data is under way
 abbrev pub IsAtEase : ControllerView → Type 0
 IsAtEase view = (view.running ≡ None) × (view.transfer ≡ Data.Nothing)
+
+-- Where a driver may begin: nothing runs or settles. Whether the card has power, what is set and what is left of earlier use doesn't
+-- matter.
+abbrev pub IsNew : ControllerView → Type 0
+IsNew view = WhereKept view ((is_still view ≡ true) × IsAtEase view)
+
+-- nothing runs, nothing is left of earlier use, and the card has no power
+abbrev pub IsOff : ControllerView → Type 0
+IsOff view =
+    WhereKept view ((is_at_rest view ≡ true) × ((view.transfer ≡ Data.Nothing) × (view.settings.power ≡ 0)))
+
+-- between two commands, with all set that they need, and nothing lent
+abbrev pub IsReady : ControllerView → Type 0
+IsReady view =
+    WhereKept view
+    ((is_at_rest view ≡ true)
+    × ((view.transfer ≡ Data.Nothing) × ((view.dma.lent ≡ None) × (is_set view.settings ≡ true))))
 
 -- where lines and clock can be set
 abbrev pub IsSteady : ControllerView → Type 0
@@ -86,6 +127,14 @@ started view =
       settings = record (restarted view).settings { shown = 0x007f0033 };
       resetting = None;
     }
+
+abbrev pub IsStarted : ControllerView → Type 0
+IsStarted view =
+    WhereKept view
+    ((is_at_rest view ≡ true)
+    × ((view.transfer ≡ Data.Nothing)
+    × (view.settings
+    ≡ record { control = 0; power = 0; clock = 0; timeout = 0; shown = 0x007f0033; stabilizing = None; starting = None })))
 
 abbrev pub Restarts : ControllerView → ControllerView → Type 0
 Restarts old new = Settled old (new ≡ started old) new
@@ -106,6 +155,15 @@ pub record IsSameCard (old new : ControllerView) : Type 0 where
   pub may_fall : new.may_fall ≡ old.may_fall
   pub built : new.built ≡ old.built
 
+-- What was under way is lost: of the same card no sector may hold more, and it stands as it did.
+pub record IsLost (old new : ControllerView) : Type 0 where
+  pub carried : Carried old.card new.card
+  pub narrows : Within (holds new.card) (holds old.card)
+  pub is_card : IsCard old.card → IsCard new.card
+  pub stands : StillStands old.card new.card
+  pub later : old.faults ≤ new.faults
+  pub built : new.built ≡ old.built
+
 -- blocks of whole words
 abbrev pub are_words : Data → Bool
 are_words Data.Nothing = true
@@ -120,7 +178,7 @@ unkept_controller =
       faults = 0;
       may_fall = None;
       is_kept = false;
-      built = record { capabilities = 0; version = 0 };
+      built = record { capabilities = 0; version = 0; wired = Eight };
       settings = record { control = 0; power = 0; clock = 0; timeout = 0; shown = 0; stabilizing = None; starting = None };
       resetting = None;
       sizes = 0;

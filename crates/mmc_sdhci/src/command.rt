@@ -6,7 +6,8 @@ ghost use Rattle.mmc_host.specs.HostStates.{AreMovable, IsFree};
 ghost use Rattle.mmc_sdhci.specs.Commands.{Begins, Clears, Ends, IsIdleFor, IsRunning, IsSet, KeepsSettings, LosesAll, ReadsWord, ResetsData, ResetsLine, SetsSizes, Tells, flags_of, mode_of};
 ghost use Rattle.mmc_sdhci.specs.Commands.{CanMoveBy, IsUnderWay, IsWord, KeepsLent, RestsButMoves, Sends, fault_in, is_moved_by, older_bits, response_flags, several, sizes_of};
 ghost use Rattle.mmc_card.specs.declared.response.Response.TheVariants.{R1, R2};
-ghost use Rattle.mmc_sdhci.specs.Controller.{has_data};
+ghost use Rattle.mmc_sdhci.specs.Controller.{Settled, has_data};
+ghost use Rattle.mmc_sdhci.specs.Driver.{IsAtEase, IsSameCard};
 ghost use Rattle.mmc_sdhci.specs.CommandLooks.{bytes_shown};
 ghost use Rattle.mmc_sdhci.specs.Accesses.{IsAtRest, IsStill};
 ghost use Rattle.mmc_sdhci.specs.Beside.{HasWaited};
@@ -245,6 +246,8 @@ pub fn lose_all<R: Registers>(registers: &mut R)
     ensures lost { LosesAll (R.view registers.old) (R.view registers.new) }
     ensures keeps { KeepsSettings (R.view registers.old) (R.view registers.new) }
     ensures rest { IsAtRest (R.view registers.new) }
+    ensures same { Settled (R.view registers.old)
+        (IsAtEase (R.view registers.old) → IsSameCard (R.view registers.old) (R.view registers.new)) (R.view registers.new) }
 {
     reset_command(registers);
     reset_data(registers);

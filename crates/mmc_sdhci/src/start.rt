@@ -3,15 +3,17 @@ ghost use Rattle.std.specs.Prelude.{◌+◌, ◌<◌, ◌≡◌, ◌≤◌, bit_
 ghost use Rattle.mmc_card.specs.declared.exchange.Width.TheVariants as Width;
 ghost use Rattle.mmc_frame.specs.Field.{field};
 ghost use Rattle.mmc_sdhci.specs.Commands.{selection};
-ghost use Rattle.mmc_sdhci.specs.Controller.{limits_in, lines_in};
-ghost use Rattle.mmc_sdhci.specs.Accesses.{IsStill, Stays};
-ghost use Rattle.mmc_sdhci.specs.Beside.{is_inserted, is_sure};
-ghost use Rattle.mmc_sdhci.specs.Driver.{IsBaseClock, IsNew, Restarts};
+ghost use Rattle.mmc_sdhci.specs.Controller.{Settled, limits_in, limits_within, lines_in};
+ghost use Rattle.mmc_host.specs.declared.data.Data.TheVariants.{Nothing};
+ghost use Rattle.mmc_sdhci.specs.Accesses.{IsAtRest, IsStill, Stays};
+ghost use Rattle.mmc_sdhci.specs.Beside.{HasWaited, is_inserted, is_sure};
+ghost use Rattle.mmc_sdhci.specs.Driver.{IsBaseClock, IsNew, IsOff, IsSameCard, IsStarted, Restarts};
 ghost use Rattle.mmc_sdhci.specs.Moving.{WhereKept};
 ghost use Rattle.mmc_sdhci.specs.Settling.{IsClocked, PowersUp};
 
+use crate::command::lose_all;
 use crate::dma::Dma;
-use crate::offsets::{PRESENT, RESET, SHOWN_INTERRUPTS, SIGNALS};
+use crate::offsets::{POWER, PRESENT, RESET, SHOWN_INTERRUPTS, SIGNALS};
 use crate::registers::Registers;
 use crate::settling::{pause, settle_reset};
 use mmc_card::{Lines, Timing, Width};
@@ -35,6 +37,10 @@ const LOOKS: u32 = 1000;
 
 const BETWEEN_LOOKS: u32 = 100;
 
+// A card that is to lose its power has less than 0.5 V for a millisecond (SD Physical Layer 6.00, section 6.4.1.2); it takes a while to
+// come there.
+const OFF_TIME: u32 = 10_000;
+
 /// Command Complete, Transfer Complete, Buffer Write Ready and Buffer Read Ready, and all errors of command and data.
 pub const SHOWN: u32 = 0x007f_0033;
 
@@ -53,6 +59,17 @@ pub fn limits_in(capabilities: u32) -> Lines
         Timing::Default
     };
     Lines { width, timing }
+}
+
+/// The same where no more lines are wired to its slot.
+pub fn limits_of(capabilities: u32, wired: Width) -> Lines
+    ensures { result ≡ limits_within wired (limits_in capabilities) }
+{
+    let Lines { width, timing } = limits_in(capabilities);
+    Lines {
+        width: wired.fewer(width),
+        timing,
+    }
 }
 
 /// Host Control 1 for these lines, and the way in which the controller moves data, if it does.
@@ -78,15 +95,39 @@ pub fn control_of(lines: Lines, dma: Option<Dma>) -> u8
     width + timing + selection
 }
 
-/// Resets the controller, and has it show the interrupts that the driver looks at. None reaches the processor.
-pub fn restart<R: Registers>(registers: &mut R)
-    requires { IsNew (R.view registers.old) }
+// Takes the card's power, and waits until it has been without it for long enough.
+fn power_down<R: Registers>(registers: &mut R)
+    requires rest { IsAtRest (R.view registers.old) }
+    requires idle { WhereKept (R.view registers.old) ((R.view registers.old).transfer ≡ Nothing) }
+    ensures off { IsOff (R.view registers.new) }
+    ensures same { Settled (R.view registers.old) (IsSameCard (R.view registers.old) (R.view registers.new)) (R.view registers.new) }
+    ensures waited { HasWaited (R.view registers.new) 10000 (R.beside registers.old) (R.beside registers.new) }
+{
+    registers.write8(POWER, 0);
+    pause(registers, OFF_TIME);
+}
+
+// Resets the controller, and has it show the interrupts that the driver looks at. None reaches the processor.
+fn restart<R: Registers>(registers: &mut R)
+    requires { IsOff (R.view registers.old) }
     ensures { Restarts (R.view registers.old) (R.view registers.new) }
 {
     registers.write8(RESET, 1);
     settle_reset(registers);
     registers.write32(SHOWN_INTERRUPTS, SHOWN);
     registers.write32(SIGNALS, 0);
+}
+
+/// Begins anew, whatever the controller was used for: what is left of that is lost, the card has had no power for long enough, and the
+/// controller is reset.
+pub fn start_anew<R: Registers>(registers: &mut R)
+    requires { IsNew (R.view registers.old) }
+    ensures started { IsStarted (R.view registers.new) }
+    ensures same { Settled (R.view registers.old) (IsSameCard (R.view registers.old) (R.view registers.new)) (R.view registers.new) }
+{
+    lose_all(registers);
+    power_down(registers);
+    restart(registers);
 }
 
 /// Whether a card is inserted, once the controller is sure of it, or after 100 ms.

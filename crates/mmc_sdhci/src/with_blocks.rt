@@ -7,7 +7,7 @@ ghost use Rattle.mmc_host.specs.declared.data.Data.TheVariants as After;
 ghost use Rattle.mmc_card.specs.declared.response.Response.TheVariants.{R1};
 ghost use Rattle.mmc_sdhci.specs.Accesses.{Stays};
 ghost use Rattle.mmc_sdhci.specs.Commands.{IsWord};
-ghost use Rattle.mmc_sdhci.specs.Driver.{StaysHost, host_over};
+ghost use Rattle.mmc_sdhci.specs.Driver.{StaysHost, host_over, told_so};
 ghost use Rattle.mmc_sdhci.specs.Finishing.{IsLent, IsLentFor, MovesWith, ended};
 ghost use Rattle.mmc_sdhci.specs.Moving.{WhereKept};
 
@@ -64,9 +64,13 @@ impl<R: Registers> Sdhci<R> {
         ensures state { IfSome result (λ done. self.new.state ≡ ended (sent self.old.state command (is_ok done.0))) }
         ensures same { IsNone result → Stays (R.view self.old.registers) (R.view self.new.registers)
             × (self.new.state ≡ self.old.state) }
+        ensures told { self.new.told ≡ self.old.told }
         ensures limits { self.new.limits ≡ self.old.limits }
     {
         let size = 512 * count as u32;
+        if !self.is_set {
+            return None;
+        }
         if !prepare(
             &mut self.registers,
             self.state.ios.lines(),
@@ -102,14 +106,14 @@ impl<R: Registers> Sdhci<R> {
     ) -> Option<(Result<Heard, ResponseFault>, Moved<DataIn>)>
         requires index { command.index < 64 }
         requires movable { AreMovable command.transfer }
-        requires free { Where (host_over (R.view self.old.registers) self.old.state self.old.limits)
+        requires free { Where (host_over (R.view self.old.registers) (told_so self.old.state self.old.told) self.old.limits)
             (IsFree self.old.state.transfer command) }
         ensures same { IsNone result → (blocks.new ≡ blocks.old)
-            × StaysHost (host_over (R.view self.old.registers) self.old.state self.old.limits)
-            (host_over (R.view self.new.registers) self.new.state self.new.limits) }
+            × StaysHost (host_over (R.view self.old.registers) (told_so self.old.state self.old.told) self.old.limits)
+            (host_over (R.view self.new.registers) (told_so self.new.state self.new.told) self.new.limits) }
         ensures reads { IfSome result (λ done. ReadsWith D.blocks D.with
-            (host_over (R.view self.old.registers) self.old.state self.old.limits) command blocks.old done.0 done.1
-            blocks.new (host_over (R.view self.new.registers) self.new.state self.new.limits)) }
+            (host_over (R.view self.old.registers) (told_so self.old.state self.old.told) self.old.limits) command blocks.old done.0 done.1
+            blocks.new (host_over (R.view self.new.registers) (told_so self.new.state self.new.told) self.new.limits)) }
     {
         let count = blocks.len();
         if !has_dma(self.capabilities) || !reads_whole(command.transfer, count) {
@@ -133,13 +137,13 @@ impl<R: Registers> Sdhci<R> {
     ) -> Option<(Result<Heard, ResponseFault>, Moved<DataOut>)>
         requires index { command.index < 64 }
         requires movable { AreMovable command.transfer }
-        requires free { Where (host_over (R.view self.old.registers) self.old.state self.old.limits)
+        requires free { Where (host_over (R.view self.old.registers) (told_so self.old.state self.old.told) self.old.limits)
             (IsFree self.old.state.transfer command) }
         requires response { command.response ≡ R1 }
-        ensures same { IsNone result → StaysHost (host_over (R.view self.old.registers) self.old.state self.old.limits)
-            (host_over (R.view self.new.registers) self.new.state self.new.limits) }
-        ensures writes { IfSome result (λ done. WritesWith (host_over (R.view self.old.registers) self.old.state self.old.limits)
-            command (D.blocks blocks.now) done.0 done.1 (host_over (R.view self.new.registers) self.new.state self.new.limits)) }
+        ensures same { IsNone result → StaysHost (host_over (R.view self.old.registers) (told_so self.old.state self.old.told) self.old.limits)
+            (host_over (R.view self.new.registers) (told_so self.new.state self.new.told) self.new.limits) }
+        ensures writes { IfSome result (λ done. WritesWith (host_over (R.view self.old.registers) (told_so self.old.state self.old.told) self.old.limits)
+            command (D.blocks blocks.now) done.0 done.1 (host_over (R.view self.new.registers) (told_so self.new.state self.new.told) self.new.limits)) }
     {
         let count = blocks.len();
         if !has_dma(self.capabilities) || !writes_whole(command.transfer, count) {
@@ -163,15 +167,15 @@ impl<R: Registers> Sdhci<R> {
     ) -> (Result<Heard, ResponseFault>, Moved<DataIn>)
         requires index { command.index < 64 }
         requires movable { AreMovable command.transfer }
-        requires free { Where (host_over (R.view self.old.registers) self.old.state self.old.limits)
+        requires free { Where (host_over (R.view self.old.registers) (told_so self.old.state self.old.told) self.old.limits)
             (IsFree self.old.state.transfer command) }
-        requires told { Where (host_over (R.view self.old.registers) self.old.state self.old.limits)
+        requires told { Where (host_over (R.view self.old.registers) (told_so self.old.state self.old.told) self.old.limits)
             (IsTold self.old.state command) }
-        requires clock { Where (host_over (R.view self.old.registers) self.old.state self.old.limits)
-            (IsSlowEnough self.old.state command) }
+        requires clock { Where (host_over (R.view self.old.registers) (told_so self.old.state self.old.told) self.old.limits)
+            (IsSlowEnough (told_so self.old.state self.old.told) command) }
         requires to_come { AreAfter command.transfer (length (D.blocks blocks.old)) }
-        ensures { ReadsWith D.blocks D.with (host_over (R.view self.old.registers) self.old.state self.old.limits) command
-            blocks.old result.0 result.1 blocks.new (host_over (R.view self.new.registers) self.new.state self.new.limits) }
+        ensures { ReadsWith D.blocks D.with (host_over (R.view self.old.registers) (told_so self.old.state self.old.told) self.old.limits) command
+            blocks.old result.0 result.1 blocks.new (host_over (R.view self.new.registers) (told_so self.new.state self.new.told) self.new.limits) }
     {
         let heard = self.send(command);
         if !is_ok(heard) {
@@ -195,16 +199,16 @@ impl<R: Registers> Sdhci<R> {
     ) -> (Result<Heard, ResponseFault>, Moved<DataOut>)
         requires index { command.index < 64 }
         requires movable { AreMovable command.transfer }
-        requires free { Where (host_over (R.view self.old.registers) self.old.state self.old.limits)
+        requires free { Where (host_over (R.view self.old.registers) (told_so self.old.state self.old.told) self.old.limits)
             (IsFree self.old.state.transfer command) }
-        requires told { Where (host_over (R.view self.old.registers) self.old.state self.old.limits)
+        requires told { Where (host_over (R.view self.old.registers) (told_so self.old.state self.old.told) self.old.limits)
             (IsTold self.old.state command) }
-        requires clock { Where (host_over (R.view self.old.registers) self.old.state self.old.limits)
-            (IsSlowEnough self.old.state command) }
+        requires clock { Where (host_over (R.view self.old.registers) (told_so self.old.state self.old.told) self.old.limits)
+            (IsSlowEnough (told_so self.old.state self.old.told) command) }
         requires ahead { AreAhead command.transfer (length (D.blocks blocks.now)) }
         requires response { command.response ≡ R1 }
-        ensures { WritesWith (host_over (R.view self.old.registers) self.old.state self.old.limits) command (D.blocks blocks.now)
-            result.0 result.1 (host_over (R.view self.new.registers) self.new.state self.new.limits) }
+        ensures { WritesWith (host_over (R.view self.old.registers) (told_so self.old.state self.old.told) self.old.limits) command (D.blocks blocks.now)
+            result.0 result.1 (host_over (R.view self.new.registers) (told_so self.new.state self.new.told) self.new.limits) }
     {
         let heard = self.send(command);
         if !is_word(heard) || blocks.len() == 0 {

@@ -5,7 +5,7 @@ use base.Stored.{Coded, Gv, coded_list, gcons, gnil, gnum}
 use denote.Struct.Codes.{codes}
 use Rattle.mmc_story.specs.Entry.{Entry}
 
-same : Gv → Gv → Bool
+pub same : Gv → Gv → Bool
 same gnil gnil = true
 same (gnum a) (gnum b) = a == b
 same (gcons a b) (gcons c d) = same a c && same b d
@@ -15,7 +15,7 @@ both : (a b : Bool) → (a && b) ≡ true → (a ≡ true) × (b ≡ true)
 both true b p = (refl, p)
 both false b p = absurd (false≢true p)
 
-alike : (a b : Gv) → same a b ≡ true → a ≡ b
+pub alike : (a b : Gv) → same a b ≡ true → a ≡ b
 unfolding same
 alike gnil gnil p = refl
 alike (gnum a) (gnum b) p = ap gnum (eqb-true a b p)
@@ -28,7 +28,7 @@ alike (gnum a) (gcons c d) p = absurd (false≢true p)
 alike (gcons a b) gnil p = absurd (false≢true p)
 alike (gcons a b) (gnum d) p = absurd (false≢true p)
 
-itself : (a : Gv) → same a a ≡ true
+pub itself : (a : Gv) → same a a ≡ true
 unfolding same
 itself gnil = refl
 itself (gnum a) = eq-eqb a a refl

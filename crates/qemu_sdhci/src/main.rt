@@ -8,13 +8,16 @@ mod protocol;
 mod registers;
 mod runs;
 
+ghost use Rattle.mmc_card.specs.declared.exchange.Width.TheVariants.{Eight};
 ghost use Rattle.mmc_sdhci.specs.Driver.{IsNew};
+ghost use Rattle.mmc_sdhci.specs.Moving.{WhereKept};
 
 use crate::protocol::Conversation;
 use crate::registers::QemuRegisters;
 use crate::runs::Card;
 use anyhow::{Result, anyhow};
 use mmc_block::{BlockDev, Part};
+use mmc_card::Width;
 use mmc_host::HostBus;
 use mmc_sdhci::{Registers, Sdhci};
 use sdhci_board::{Board, Known, Slot};
@@ -24,9 +27,10 @@ const USAGE: &str = "usage: qemu_sdhci RUNS SEED [--words | --dma]";
 
 // Opens the card.
 fn open<R: Registers + Drop>(rt: &impl AllocGlobal, registers: R) -> Result<Card<R>>
-    requires { IsNew (R.view registers) }
+    requires new { IsNew (R.view registers) }
+    requires wired { WhereKept (R.view registers) ((R.view registers).built.wired ≡ Eight) }
 {
-    match Sdhci::new(registers) {
+    match Sdhci::new(registers, Width::Eight) {
         Err((_, fault)) => Err(fault.into()),
         Ok(host) => match BlockDev::open(rt.alloc(), HostBus::new(host)) {
             Err((_, fault)) => Err(fault.into()),
@@ -42,7 +46,8 @@ fn serve<R: Registers + Drop>(
     rounds: u64,
     seed: u64,
 ) -> Result<()>
-    requires { IsNew (R.view registers) }
+    requires new { IsNew (R.view registers) }
+    requires wired { WhereKept (R.view registers) ((R.view registers).built.wired ≡ Eight) }
 {
     let mut card = open(rt, registers)?;
     let sectors = card.info().sectors(Part::User).unwrap_or(0);

@@ -3,6 +3,7 @@ use Rattle.std.specs.Prelude.{Bool, List, None, Ok, Option, Some, drop, false, i
 use Rattle.mmc_frame.specs.Field.{field}
 use Rattle.mmc_host.specs.Hosts.{answer_heard}
 use Rattle.mmc_host.specs.declared.data.Data.{Data}
+use Rattle.mmc_card.specs.declared.exchange.Width.TheVariants.{Eight}
 use Rattle.mmc_card.specs.declared.response.Response.{Response}
 use Rattle.mmc_host.specs.declared.told.Heard.{Heard}
 use Rattle.mmc_host.specs.declared.told.HostCommand.{HostCommand}
@@ -49,7 +50,7 @@ shown outcome state =
       faults = outcome.faults;
       may_fall = None;
       is_kept = if state.is_sound then outcome.conformed else false;
-      built = record { capabilities = state.capabilities; version = state.version };
+      built = record { capabilities = state.capabilities; version = state.version; wired = Eight };
       settings = record {
         control = state.control;
         power = state.power;

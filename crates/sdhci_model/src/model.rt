@@ -6,6 +6,7 @@ ghost use Rattle.sdhci_model.specs.Shown.{controller};
 use crate::engine::Engine;
 use crate::manner::Manner;
 use mmc_bus::Blocks;
+use mmc_card::Width;
 use mmc_host::Host;
 use mmc_sdhci::{Registers, Sdhci, StartFault, Table};
 use mmc_story::HasStory;
@@ -157,5 +158,8 @@ pub fn driver<D: Host, S: HasStory>(
     requires { (D.view host).is_kept ≡ false }
     ensures unused { IfOk result (λ host. IsUnused (⟦<Sdhci<Model<D, S>> as Host>⟧.view host)) }
 {
-    Sdhci::new(Model::new(host, capabilities, version, memory, manner))
+    Sdhci::new(
+        Model::new(host, capabilities, version, memory, manner),
+        Width::Eight,
+    )
 }

@@ -247,7 +247,7 @@ impl State {
     fn may_power(&self, value: u8) -> bool
         ensures { (outcome : Outcome) → result ≡ may_write8 (shown outcome self.now) 0x29 value }
     {
-        both(self.is_idle(), value == 0x0f)
+        both(self.is_idle(), either(value == 0x0f, value == 0))
     }
 
     fn may_reset(&self, value: u8) -> bool

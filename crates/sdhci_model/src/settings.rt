@@ -1,6 +1,6 @@
 // Lines, power, clock, and which interrupts are shown.
-ghost use Rattle.std.specs.Prelude.{◌≡◌, ◌≤◌, Some};
-ghost use Rattle.mmc_sdhci.specs.Accesses.{stabilizing_from, starting_anew};
+ghost use Rattle.std.specs.Prelude.{◌≡◌, ◌≤◌};
+ghost use Rattle.mmc_sdhci.specs.Accesses.{stabilizing_from, starting_anew, starting_with};
 ghost use Rattle.mmc_sdhci.specs.Controller.{divider_in, divisor, lines_in};
 ghost use Rattle.sdhci_model.specs.Moves.{WritesTo};
 ghost use Rattle.sdhci_model.specs.Shown.{told_of};
@@ -106,12 +106,12 @@ impl State {
         self.control = value;
     }
 
-    /// Power Control is written, after which the card starts.
+    /// Power Control is written, after which the card starts, or has no power.
     pub fn set_power(&mut self, value: u8)
-        ensures { self.new ≡ record self.old { power = value; starting = Some 0 } }
+        ensures { self.new ≡ record self.old { power = value; starting = starting_with value } }
     {
         self.power = value;
-        self.starting = Some(0);
+        self.starting = if value == 0 { None } else { Some(0) };
     }
 
     /// Clock Control and Timeout Control are written.

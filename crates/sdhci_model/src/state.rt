@@ -1,7 +1,7 @@
 // What the registers of a controller hold, and what it is at.
-ghost use Rattle.std.specs.Prelude.{◌≡◌, true};
+ghost use Rattle.std.specs.Prelude.{◌≡◌, None, true};
 ghost use Rattle.mmc_host.specs.declared.data.Data.TheVariants.{Nothing};
-ghost use Rattle.mmc_sdhci.specs.Accesses.{is_at_rest};
+ghost use Rattle.mmc_sdhci.specs.Controller.{is_still};
 ghost use Rattle.mmc_story.specs.Story.{Outcome};
 ghost use Rattle.sdhci_model.specs.Shown.{shown};
 
@@ -83,9 +83,9 @@ pub struct State {
 impl State {
     /// Before any access: Capabilities and the version, the bus address of memory that will be lent, and no power.
     pub fn new(capabilities: u32, version: u8, memory: u64) -> State
-        ensures rest { (outcome : Outcome) → is_at_rest (shown outcome result) ≡ true }
+        ensures still { (outcome : Outcome) → is_still (shown outcome result) ≡ true }
+        ensures running { result.running ≡ None }
         ensures transfer { result.transfer ≡ Nothing }
-        ensures power { result.power ≡ 0 }
         ensures capabilities { result.capabilities ≡ capabilities }
         ensures version { result.version ≡ version }
         ensures sound { result.is_sound ≡ true }

@@ -1,17 +1,30 @@
--- What was read and written, access by access, and what was waited for.
-use Rattle.std.specs.Prelude.{[], List, ℕ, ◌∷◌}
+-- What was read and written, access by access, what was lent, and what was waited for.
+use Rattle.std.specs.Prelude.{[], ◌∷◌, Bool, List, Option, ℕ}
 use Rattle.mmc_sdhci.specs.Beside.{Beside, read_on, waited_on}
 
--- each with its offset, and what was read or written
+-- each register with its offset, and what was read or written
 pub data Access : Type 0 where
   Read32 : ℕ → ℕ → Access
   Write32 : ℕ → ℕ → Access
   Read8 : ℕ → ℕ → Access
   Write8 : ℕ → ℕ → Access
+  -- a whole block was taken from the Buffer Data Port, or written to it
+  PortRead : List ℕ → Access
+  PortWritten : List ℕ → Access
+  -- room for so many blocks was lent, or these blocks to go: from this bus address on, or the controller can't have them
+  RoomLent : ℕ → Option ℕ → Access
+  BlocksLent : List (List ℕ) → Option ℕ → Access
+  -- and a table of them, by addresses of 64 bits or of 32
+  TableLent : Bool → Option ℕ → Access
+  -- what has come into the place with this number was taken, or into those from it on
+  PlaceTaken : ℕ → List ℕ → Access
+  PlacesTaken : ℕ → List ℕ → Access
+  -- what was lent was taken back
+  TakenBack : Access
   -- for so many microseconds
   Pause : ℕ → Access
-  -- memory was lent for DMA, or taken back
-  Dma : Access
+  -- something was asked for that no controller can do
+  Misused : Access
 
 -- how long was waited by these accesses, the last one first, and what Present State showed last; before the first one it showed nothing
 abbrev pub beside_after : Beside → Access → Beside

@@ -8,7 +8,8 @@ use Rattle.sdhci_story.specs.RegisterStory.{IsAccess, RegisterStory}
 -- These accesses, the last one first, are steps that follow each other, from a new controller to this one.
 abbrev pub AreSteps : List Access → ControllerView → Type 0
 AreSteps [] view = IsNew view
-AreSteps (access ∷ past) view = (before : ControllerView) × AreSteps past before × IsAccess before access view
+AreSteps (access ∷ past) view =
+    (before : ControllerView) × AreSteps past before × IsAccess before access view × (view.built ≡ before.built)
 
 -- A story tells of such steps.
 abbrev pub StoriesTellSteps : Type 0

@@ -3,14 +3,16 @@ ghost use Rattle.mmc_host.specs.Hosts.{IsUnused};
 
 use crate::diary::{Diary, Note};
 use crate::story::HasRegisterStory;
+use mmc_bus::Blocks;
+use mmc_card::Width;
 use mmc_host::Host;
-use mmc_sdhci::{Registers, Sdhci, StartFault};
+use mmc_sdhci::{Registers, Sdhci, StartFault, Table};
 use std::marker::PhantomData;
 
 /// Registers with a diary of their accesses, which exists only in proofs.
 ///
-/// They are kept as long as the story is true of the diary. Nothing can bind the diary to the wire, so its calls are to be read:
-/// each makes the access once, notes just that, and gives back what was read.
+/// They are kept as long as the story is true of the diary. Nothing can bind the diary to the wire, so its calls are to be read: each
+/// makes the access once, notes just that, and gives back what was read.
 #[derive(Drop)]
 pub struct StoryRegisters<R: Registers, S: HasRegisterStory> {
     registers: R,
@@ -23,6 +25,7 @@ pub struct StoryRegisters<R: Registers, S: HasRegisterStory> {
 impl<R: Registers, S: HasRegisterStory> StoryRegisters<R, S> {
     ghost use Rattle.mmc_sdhci.specs.Driver.{IsNew};
     ghost use Rattle.sdhci_story.specs.Noted.{access_of};
+    ghost use Rattle.sdhci_story.specs.RegisterStory.{IsTrueOf};
 
     /// Over registers of which nothing is proved, as of those with the view `unkept_controller`, before any access.
     pub fn new(registers: R) -> StoryRegisters<R, S>
@@ -38,6 +41,16 @@ impl<R: Registers, S: HasRegisterStory> StoryRegisters<R, S> {
         }
     }
 
+    /// The same, which go on after earlier accesses: then the story is that of all of them.
+    pub fn after(self, did: &Diary) -> StoryRegisters<R, S>
+        ensures registers { result.registers ≡ self.registers }
+        ensures past { result.diary.past ≡ did.now.past }
+    {
+        let mut registers = self;
+        registers.diary = did.again();
+        registers
+    }
+
     /// The registers.
     pub fn registers(&self) -> &R
         ensures { result.now ≡ self.now.registers }
@@ -45,9 +58,23 @@ impl<R: Registers, S: HasRegisterStory> StoryRegisters<R, S> {
         &self.registers
     }
 
+    /// The registers that are used no more, and what was done. Of that no story is true where something was asked for that no controller
+    /// can do.
+    pub fn ended(self, is_misused: bool) -> (R, Diary)
+        ensures registers { result.0 ≡ self.registers }
+        ensures did { IsTrueOf S.story result.1.past → (is_misused ≡ false) × (result.1.past ≡ self.diary.past) }
+    {
+        let mut registers = self;
+        if is_misused {
+            registers.note(Note::Misused);
+        }
+        (registers.registers, registers.diary)
+    }
+
     // Notes an access.
-    fn note(&mut self, note: Note)
-        ensures { self.new.diary.past ≡ access_of note ∷ self.old.diary.past }
+    fn note(&mut self, note: Note<'_>)
+        ensures past { self.new.diary.past ≡ access_of note.entry ∷ self.old.diary.past }
+        ensures registers { self.new.registers ≡ self.old.registers }
     {
         self.diary = self.diary.then(&note);
     }
@@ -82,14 +109,52 @@ impl<R: Registers, S: HasRegisterStory> Registers for StoryRegisters<R, S> {
         self.note(Note::Write8 { offset, value });
     }
 
+    fn read_port(&mut self, block: &mut [u8]) {
+        self.registers.read_port(block);
+        self.note(Note::PortRead { block });
+    }
+
+    fn write_port(&mut self, block: &[u8; 512]) {
+        self.registers.write_port(block);
+        self.note(Note::PortWritten { block });
+    }
+
+    fn lend_room(&mut self, count: usize) -> Option<u64> {
+        let place = self.registers.lend_room(count);
+        self.note(Note::RoomLent { count, place });
+        place
+    }
+
+    fn lend_blocks<D: Blocks>(&mut self, blocks: &D) -> Option<u64> {
+        let place = self.registers.lend_blocks(blocks);
+        let blocks = &mmc_story::Seen::of(blocks);
+        self.note(Note::BlocksLent { blocks, place });
+        place
+    }
+
+    fn lend_table(&mut self, table: &Table) -> Option<u64> {
+        let place = self.registers.lend_table(table);
+        let is_wide = table.is_wide();
+        self.note(Note::TableLent { is_wide, place });
+        place
+    }
+
     fn take_place(&mut self, index: usize, block: &mut [u8; 512]) {
         self.registers.take_place(index, block);
-        self.note(Note::Dma);
+        self.note(Note::PlaceTaken { index, block });
+    }
+
+    fn take_places(&mut self, index: usize, blocks: &mut [u8]) {
+        self.registers.take_places(index, blocks);
+        self.note(Note::PlacesTaken {
+            first: index,
+            bytes: blocks,
+        });
     }
 
     fn take_back(&mut self) {
         self.registers.take_back();
-        self.note(Note::Dma);
+        self.note(Note::TakenBack);
     }
 
     fn pause(&mut self, micros: u32) {
@@ -98,15 +163,18 @@ impl<R: Registers, S: HasRegisterStory> Registers for StoryRegisters<R, S> {
     }
 }
 
-/// The driver over such registers: a host that conforms where the story is true.
+/// The driver over such registers, of a controller to whose slot so many data lines are wired: a host that conforms where the story is
+/// true.
 ///
 /// # Errors
 /// What `Sdhci::new` says.
 pub fn driver<R: Registers, S: HasRegisterStory>(
     registers: R,
+    wired: Width,
 ) -> Result<Sdhci<StoryRegisters<R, S>>, (StoryRegisters<R, S>, StartFault)>
     requires unkept { (R.view registers).is_kept ≡ false }
+    requires wired { S.story.built.wired ≡ wired }
     ensures unused { IfOk result (λ host. IsUnused (⟦<Sdhci<StoryRegisters<R, S>> as Host>⟧.view host)) }
 {
-    Sdhci::new(StoryRegisters::new(registers))
+    Sdhci::new(StoryRegisters::new(registers), wired)
 }

@@ -18,7 +18,7 @@ use std::test::Fail;
 fn is_sound_in(alloc: Global, longest: u32) -> Result<bool, Fail> {
     let card = SimCard::build(alloc, sdsc()).ok().ok_or("no card")?;
     let model = Model::new(over(card), CAPABILITIES, 2, 0x1000_0000, Manner::default());
-    let Ok(host) = Sdhci::new(Hasty { model, longest }) else {
+    let Ok(host) = Sdhci::new(Hasty { model, longest }, Width::Eight) else {
         return Err("no driver".into());
     };
     let mut bus = HostBus::new(host);

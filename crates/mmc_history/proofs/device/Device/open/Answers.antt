@@ -1,6 +1,6 @@
 use Rattle.std.proofs.Common.{ap, subst, sym, ◌∙◌, ◌≡◌}
 use Rattle.std.specs.Prelude.{reverse}
-use Rattle.mmc_history.proofs.ServingLemmas.{serves_from, tells}
+use Rattle.mmc_history.proofs.ServingLemmas.{serves_from, tells, tells_beside}
 use Rattle.mmc_history.specs.Serving.{IsServing}
 use Rattle.mmc_card.specs.BusView.{BusView}
 use Rattle.mmc_card.specs.Made.{Made}
@@ -25,5 +25,10 @@ returns-clause-info g c kept =
 
 pub returns-clause-served : goal.returns-clause-served
 returns-clause-served g c kept =
-    tells g.B.Bus.view c.of-opened.result c.an_execution_has_its_laws.ensures c.in_ok-device.device (reverse c.new.result.past)
-    (invariant_of-result g c kept)
+    tells g.B.Bus.view c.of-opened.result c.an_execution_has_its_laws.ensures c.clients_see_no_groups.ensures
+    c.in_ok-device.device (reverse c.new.result.past) c.nothing_is_left_where_all_is_answered.ensures (invariant_of-result g c kept)
+
+pub returns-clause-beside : goal.returns-clause-beside
+returns-clause-beside g c kept =
+    tells_beside g.B.Bus.view c.of-opened.result c.an_execution_has_its_laws.ensures c.clients_see_no_groups.ensures
+    c.in_ok-device.device (reverse c.new.result.past) (invariant_of-result g c kept)

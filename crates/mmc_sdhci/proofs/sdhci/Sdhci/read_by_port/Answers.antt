@@ -7,13 +7,13 @@ use Rattle.mmc_card.specs.declared.exchange.DataIn.{DataIn}
 use Rattle.mmc_host.specs.HostStates.{IsToCome}
 use Rattle.mmc_host.specs.Hosts.{ReadsBlock, Where}
 use Rattle.mmc_host.specs.Together.{HostRead}
-use Rattle.mmc_sdhci.specs.Driver.{host_over}
+use Rattle.mmc_sdhci.specs.Driver.{host_over, told_so}
 use Rattle.mmc_sdhci.proofs.Together.{comes_next, one_fewer, under_way}
 use Rattle.mmc_sdhci.proofs.sdhci.Sdhci.read_by_port.Goals as goal
 
 pub returns-then-not-is_ok : goal.returns-then-not-is_ok
 returns-then-not-is_ok g c = record {
-  between = host_over (g.R.Registers.view c.send-heard.new.self.registers) c.send-heard.new.self.state c.send-heard.new.self.limits;
+  between = host_over (g.R.Registers.view c.send-heard.new.self.registers) (told_so c.send-heard.new.self.state c.send-heard.new.self.told) c.send-heard.new.self.limits;
   sent = c.send-heard.ensures;
   read = reads 0 _ _ none_good;
 }
@@ -22,8 +22,8 @@ pub loop-done-init : goal.loop-done-init
 loop-done-init g c = (
   none_good,
   sym c.len-count.ensures,
-  under_way (host_over (g.R.Registers.view c.args.self.now.registers) c.args.self.now.state c.args.self.now.limits)
-      (host_over (g.R.Registers.view c.send-heard.new.self.registers) c.send-heard.new.self.state c.send-heard.new.self.limits)
+  under_way (host_over (g.R.Registers.view c.args.self.now.registers) (told_so c.args.self.now.state c.args.self.now.told) c.args.self.now.limits)
+      (host_over (g.R.Registers.view c.send-heard.new.self.registers) (told_so c.send-heard.new.self.state c.send-heard.new.self.told) c.send-heard.new.self.limits)
       c.args.command c.send-heard.result c.send-heard.ensures (sym c.is_ok.ensures ∙ c.if-not-is_ok.false),
 )
 
@@ -32,7 +32,7 @@ block_mut-requires g c = let same = c.loop-done.invariant.1 in omega (arith, sam
 
 pub read_block-got-requires : goal.read_block-got-requires
 read_block-got-requires g c =
-    let now = host_over (g.R.Registers.view c.loop-done.self.registers) c.loop-done.self.state c.loop-done.self.limits in
+    let now = host_over (g.R.Registers.view c.loop-done.self.registers) (told_so c.loop-done.self.state c.loop-done.self.told) c.loop-done.self.limits in
     let size : length c.block_mut.result.now ≡ 512 = omega arith in
     subst (λ n. Where now (IsToCome now.state n)) (sym size)
     (comes_next now c.args.command.transfer (length (g.D.Blocks.blocks c.args.blocks.now)) c.loop-done.done c.requires.to_come
@@ -45,10 +45,10 @@ returns-then-not-is_good g c =
     let below : c.loop-done.done < length (g.D.Blocks.blocks c.loop-done.blocks) = omega (arith, same) in
     let long : length left ≡ 512 = omega arith in
     let size : length c.block_mut.result.now ≡ 512 = omega arith in
-    let after = host_over (g.R.Registers.view c.send-heard.new.self.registers) c.send-heard.new.self.state
+    let after = host_over (g.R.Registers.view c.send-heard.new.self.registers) (told_so c.send-heard.new.self.state c.send-heard.new.self.told)
     c.send-heard.new.self.limits in
-    let now = host_over (g.R.Registers.view c.loop-done.self.registers) c.loop-done.self.state c.loop-done.self.limits in
-    let new = host_over (g.R.Registers.view c.read_block-got.new.self.registers) c.read_block-got.new.self.state
+    let now = host_over (g.R.Registers.view c.loop-done.self.registers) (told_so c.loop-done.self.state c.loop-done.self.told) c.loop-done.self.limits in
+    let new = host_over (g.R.Registers.view c.read_block-got.new.self.registers) (told_so c.read_block-got.new.self.state c.read_block-got.new.self.told)
     c.read_block-got.new.self.limits in
     record {
       between = after;
@@ -68,8 +68,8 @@ loop-done-preserved g c =
     let below : c.loop-done.done < length (g.D.Blocks.blocks c.loop-done.blocks) = omega (arith, same) in
     let long : length left ≡ 512 = omega arith in
     let size : length c.block_mut.result.now ≡ 512 = omega arith in
-    let now = host_over (g.R.Registers.view c.loop-done.self.registers) c.loop-done.self.state c.loop-done.self.limits in
-    let new = host_over (g.R.Registers.view c.read_block-got.new.self.registers) c.read_block-got.new.self.state
+    let now = host_over (g.R.Registers.view c.loop-done.self.registers) (told_so c.loop-done.self.state c.loop-done.self.told) c.loop-done.self.limits in
+    let new = host_over (g.R.Registers.view c.read_block-got.new.self.registers) (told_so c.read_block-got.new.self.state c.read_block-got.new.self.told)
     c.read_block-got.new.self.limits in
     let good : HostRead now _ left new =
     subst (λ (got : DataIn). HostRead now got left new) (c.is_good.ensures.yes c.if-not-is_good.false)
@@ -83,9 +83,9 @@ loop-done-preserved g c =
 pub returns : goal.returns
 returns g c =
     let end : c.loop-done.done ≡ c.len-count.result = omega arith in
-    let after = host_over (g.R.Registers.view c.send-heard.new.self.registers) c.send-heard.new.self.state
+    let after = host_over (g.R.Registers.view c.send-heard.new.self.registers) (told_so c.send-heard.new.self.state c.send-heard.new.self.told)
     c.send-heard.new.self.limits in
-    let now = host_over (g.R.Registers.view c.loop-done.self.registers) c.loop-done.self.state c.loop-done.self.limits in
+    let now = host_over (g.R.Registers.view c.loop-done.self.registers) (told_so c.loop-done.self.state c.loop-done.self.told) c.loop-done.self.limits in
     record {
       between = after;
       sent = c.send-heard.ensures;
