@@ -68,6 +68,8 @@ __attribute__((weak)) const uint64_t board_far = 0;
 uint64_t board_lend(void *context, void *bytes, size_t n, int is_written)
 {
     (void)context, (void)n, (void)is_written;
+    if ((uintptr_t)bytes % 4)
+        return 0;
     board_lendings++;
     return (uintptr_t)bytes;
 }

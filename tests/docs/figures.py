@@ -8,6 +8,7 @@ NUMBERS = dict(zip("one two three four five six seven eight nine ten eleven twel
 COUNTS = [
     ("docs/AUDIT.md", r"(\w+) cases, each a readable file", "tests/cases/*.case"),
     ("docs/AUDIT.md", r"find each of (\w+)\s+wrong copies", "tests/fuzz/wrong/*.edit"),
+    ("docs/AUDIT.md", r"and of (\w+) wrong hosts and registers", "tests/conform/wrong/*.edit"),
     ("docs/ARCHITECTURE.md", r"`tests/cases/` \| (\w+) cases", "tests/cases/*.case"),
     ("docs/DECISIONS.md", r"(\w+) wrong copies of `c/kelifandro.c`", "tests/fuzz/wrong/*.edit"),
     ("docs/DECISIONS.md", r"smallest function that carries it, and (\w+) in all", "crates/*/must-fail/*.edit"),
