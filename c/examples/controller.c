@@ -278,6 +278,7 @@ static void reset(struct controller *controller, uint32_t lines)
         struct controller was = *controller;
         controller_begin(controller, was.host, was.one_block);
         controller->is_bare = was.is_bare, controller->has_no_switches = was.has_no_switches, controller->is_locked = was.is_locked;
+        controller->is_empty = was.is_empty;
         controller->capabilities = was.capabilities;
         controller->version = was.version;
         controller->misuses = was.misuses;
@@ -299,6 +300,8 @@ static void reset(struct controller *controller, uint32_t lines)
 static uint32_t present(struct controller *controller)
 {
     uint32_t state = controller->has_no_switches ? 0x00080000 : 0x000f0000; /* inserted, stable, not write protected */
+    if (controller->is_empty)
+        state &= ~(uint32_t)0x00050000;
     if (controller->is_locked)
         state &= ~(uint32_t)0x00080000;
     if (controller->direction == KELIFANDRO_READ && controller->length)

@@ -12,6 +12,7 @@ struct controller {
     /* On a board that lacks bytes: accesses are of words alone, and Capabilities read 0. */
     int is_bare;
     int has_no_switches; /* no card is seen */
+    int is_empty;        /* its switches are sure that there is none */
     int is_locked;       /* the slide of the card stands at "lock" */
     uint32_t capabilities; /* 40h: all but what is taken out after controller_begin */
     uint8_t version;       /* FEh: 1 is 2.00, 2 is 3.00 */

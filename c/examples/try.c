@@ -295,6 +295,9 @@ static void boards(void)
     expect(kelifandro_open(&sd) == KELIFANDRO_NOT_INSERTED && kelifandro_is_inserted(&sd) == 0, "no switch, and nobody says so", 0);
     registers.is_there = 1;
     expect(kelifandro_open(&sd) == KELIFANDRO_DONE && kelifandro_is_inserted(&sd) == 1, "a slot without switches", 0);
+    begin(0, SEVERAL_BLOCKS);
+    controller.is_empty = 1;
+    expect(kelifandro_open(&sd) == KELIFANDRO_NOT_INSERTED && kelifandro_is_inserted(&sd) == 0, "an empty slot", 0);
     begin(0, BARE);
     controller.has_no_switches = 0;
     registers.is_there = 0;
@@ -454,6 +457,8 @@ static void slot(void)
     is_there = is_locked = is_hanging = 1;
     expect(kelifandro_open(&sd) == KELIFANDRO_DONE && strcmp(power_told, "101") == 0, "a card that hangs", 0);
     expect(kelifandro_is_inserted(&sd) == 1 && kelifandro_is_write_protected(&sd) == 1, "its switches, turned", 0);
+    is_there = 0;
+    expect(kelifandro_open(&sd) == KELIFANDRO_NOT_INSERTED && kelifandro_sectors(&sd, KELIFANDRO_USER) == 0, "a card that was taken out", 0);
     kelifandro_close(&sd);
     expect(strcmp(power_told, "1010") == 0, "without power", 0);
 }
