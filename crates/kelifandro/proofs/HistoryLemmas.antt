@@ -43,7 +43,7 @@ pub are_sectors : (sectors : List Sector) → AreWhole sectors → AreSectors se
 are_sectors [] whole = tt
 are_sectors (sector ∷ sectors) whole = (whole 0 (omega arith), are_sectors sectors (λ i less. whole (suc i) (omega (arith, less))))
 
-length-joined : (sectors : List Sector) → AreSectors sectors → length (joined sectors) ≡ 512 * length sectors
+pub length-joined : (sectors : List Sector) → AreSectors sectors → length (joined sectors) ≡ 512 * length sectors
 length-joined [] are = refl
 length-joined (sector ∷ sectors) are =
     let rest = length-joined sectors are.1 in
@@ -56,7 +56,7 @@ first_of sector rest is = subst (λ n. take n (sector ++ rest) ≡ sector) is (t
 others_of : (sector : Sector) (rest : List ℕ) → length sector ≡ 512 → drop 512 (sector ++ rest) ≡ rest
 others_of sector rest is = subst (λ n. drop n (sector ++ rest) ≡ rest) is (drop-append_seam sector rest)
 
-pieces-joined : (sectors : List Sector) → AreSectors sectors → pieces (length sectors) (joined sectors) ≡ sectors
+pub pieces-joined : (sectors : List Sector) → AreSectors sectors → pieces (length sectors) (joined sectors) ≡ sectors
 pieces-joined [] are = refl
 pieces-joined (sector ∷ sectors) are =
     rw (first_of sector (joined sectors) are.0) (rw (others_of sector (joined sectors) are.0)
@@ -64,7 +64,7 @@ pieces-joined (sector ∷ sectors) are =
 
 -- What a request changes.
 
-same_change : (kind : Kind) (info : Info) (part : Part) (start count : ℕ) (memory : List Sector) → AreSectors memory
+pub same_change : (kind : Kind) (info : Info) (part : Part) (start count : ℕ) (memory : List Sector) → AreSectors memory
     → change_of info (request_by kind part start count memory) ≡ change_by kind info part start count memory
 same_change to.Read info part start count memory are = refl
 same_change to.Write info part start count memory are = ap (λ values. written_at part start values) (pieces-joined memory are)

@@ -4,3 +4,4 @@ pub mod GoesOnLemmas
 pub mod HistoryLemmas
 pub mod OpeningLemmas
 pub mod RequestLemmas
+pub mod ReadBackLemmas

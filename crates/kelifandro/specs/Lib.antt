@@ -4,3 +4,4 @@ pub mod AskedLaws
 pub mod Calls
 pub mod History
 pub mod Longs
+pub mod ReadBack

@@ -7,6 +7,7 @@ mod calls;
 mod closing;
 mod exports;
 mod history;
+pub mod laws;
 mod longs;
 mod noting;
 mod opening;
