@@ -145,7 +145,7 @@ left_by_functions {Failed} stories way calls past accesses were state limits mis
         is_card = λ is. is;
         stands = λ setting is. is;
         later = omega arith;
-        done = λ _. refl;
+        same = λ _. refl;
       }),
     ))
     (λ _. λ kept. absurd (stories.registers.explains Misused were
@@ -185,7 +185,7 @@ left_by_driver stories way calls were accesses past end state limits misused fai
         is_card = l.1.is_card;
         stands = l.1.stands;
         later = l.1.later;
-        done = λ succeeded. ((same is).1 (has_none state.transfer (sym moves ∙ none.1 succeeded))).card;
+        same = λ succeeded. ((same is).1 (has_none state.transfer (sym moves ∙ none.1 succeeded))).card;
       }),
     ))
 

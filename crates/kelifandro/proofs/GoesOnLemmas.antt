@@ -76,7 +76,7 @@ left_stands : (answer : Result Unit NotDone) (stands : Stands) (left now : HostV
     → ((why : Refused) → answer ≡ Err (RefusedFor why) → ⊥) → AnswersBy answer stands → IsLeft (answer ≡ Ok tt) left now
     → end.card ≡ left.card → now.limits ≡ end.limits → StandsIn stands end → StandsIn stands (bus_going_on now (lines_in stands))
 left_stands (Ok done) stands left now end unrefused fits l over limits at =
-    stands_too stands end (bus_going_on now (lines_in stands)) (l.done refl ∙ sym over) limits refl at
+    stands_too stands end (bus_going_on now (lines_in stands)) (l.same refl ∙ sym over) limits refl at
 left_stands (Err (RefusedFor why)) stands left now end unrefused fits l over limits at = absurd (unrefused why refl)
 left_stands (Err (Failed cause)) (Stand.Ready session) left now end unrefused fits l over limits at = absurd fits
 left_stands (Err (Failed cause)) (Stand.Broken broken) left now end unrefused fits l over limits at =
@@ -166,12 +166,12 @@ module _ (asked : Asked) (before after : List Sector) (were : AreSectors before)
               leaves_by (info_of old.how) asked.part asked.start asked.count before after were are long
               (holds was.card) (holds now.card) asked.kind answer unrefused
               (λ p n v i. made.changed.within p n v (l.narrows p n v i))
-              (same_done answer l.done (λ (c : Card). TakesEffect (change (info_of old.how)) (holds was.card) (holds c))
+              (same_done answer l.same (λ (c : Card). TakesEffect (change (info_of old.how)) (holds was.card) (holds c))
               (subst (λ a. IfOk a (λ _. TakesEffect (change (info_of old.how)) (holds was.card) (holds left.card))) s.answers made.changed.done))
-              (same_done answer l.done (λ (c : Card). AreDecided (holds c))
+              (same_done answer l.same (λ (c : Card). AreDecided (holds c))
               (subst (λ a. IfOk a (λ _. AreDecided (holds left.card))) s.answers
               (decided_by rests s.served.answer s.served.stands end s.fits made.changed.stands)))
-              (ok_then answer (has (holds now.card)) (same_done answer l.done (λ (c : Card). Has (holds c))
+              (ok_then answer (has (holds now.card)) (same_done answer l.same (λ (c : Card). Has (holds c))
               (subst (λ a. IfOk a (λ _. Has (holds left.card))) s.answers made.has))) in
               one_more now.limits start was.card now.card earlier law
               (told_by (answer_number answer)) (info_of old.how) leaves.0
@@ -211,7 +211,7 @@ module _ (asked : Asked) (before after : List Sector) (were : AreSectors before)
         (subst (λ (c : Card). Within (holds now.card) (holds c)) card l.narrows) (λ at noted.
         let old = at open_card in
         noted_still old.how now new (refused_only answer (Notes old.how new) unmade (notes old.how old.says))
-        (stands_too old.how (bus_going_on was (lines_in old.how)) (bus_going_on now (lines_in old.how)) (l.done tt ∙ card) same refl
+        (stands_too old.how (bus_going_on was (lines_in old.how)) (bus_going_on now (lines_in old.how)) (l.same tt ∙ card) same refl
         old.stands))
     by_left answer (Ok bus) is open_card unread refused refuses told ends was_kept serves notes =
         let e = ends is in

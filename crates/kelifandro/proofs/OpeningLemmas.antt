@@ -84,7 +84,7 @@ module _ (Done : Type 0) (was host left now : HostView) (wire begins : Wire) (mi
   ready_by start same moves is done note within stay so =
       let ready = so (end_kept is) in
       let m = moved_by start same moves is in
-      let card : now.card ≡ left.card = (ended is).1.done done in
+      let card : now.card ≡ left.card = (ended is).1.same done in
       let limits : now.limits ≡ wire.limits =
       stay ∙ sym (ap (λ (h : HostView). h.limits) (told m.was_kept).1) ∙ sym (within m.was_kept) ∙ sym m.stays.limits in
       record {

@@ -1,4 +1,4 @@
--- What was done for C, by either way, and what is assumed of it: a story for each way, of which one way's calls read its own.
+-- What was done for C, by either way, and what is assumed of it: a story for each way.
 use Rattle.std.specs.Prelude.{◌==◌, ◌≡◌, ◌≤◌, [], List, if◌then◌else◌, true}
 use Rattle.mmc_card.specs.Card.{IsCard, holds}
 use Rattle.mmc_card.specs.Laws.{Carried, StillStands}
@@ -42,8 +42,8 @@ stories_of host registers = record { host = host; registers = registers }
 abbrev pub limits_by : WayRecord → Lines
 limits_by way = lines_by way.lines way.high_speed
 
--- The host of such a way after what was done, as a call finds it: by functions as the one story has it, by registers as the other. It is
--- kept where the story is true of what was done.
+-- The host of such a way after what was done, as the next call finds it: by functions as the one story has it, by registers as the other.
+-- It is kept where that story is true of what was done.
 abbrev pub host_after : Stories → WayRecord → Done → HostView
 host_after stories way done =
     if way.by == 0 then host_with (stories.host.outcome done.calls) begun (limits_by way)
@@ -57,18 +57,18 @@ IsTrueOf stories way done = (host_after stories way done).is_kept ≡ true
 abbrev pub OnlyTold : HostView → HostView → Type 0
 OnlyTold old new = Where new ((old.is_kept ≡ true) × (new ≡ record old { state = new.state }))
 
--- What the end of a call leaves of its host: the same card; where the call has failed what was under way is lost, and no sector may hold
--- more.
-pub record IsLeft (Done : Type 0) (host after : HostView) : Type 0 where
+-- What the end of a call leaves of its host. What was under way is lost: no sector may hold more, and the card stands as it did. Where the
+-- call has succeeded the card is the same.
+pub record IsLeft (Succeeded : Type 0) (host after : HostView) : Type 0 where
   pub was_kept : host.is_kept ≡ true
   pub carried : Carried host.card after.card
   pub narrows : Within (holds after.card) (holds host.card)
   pub is_card : IsCard host.card → IsCard after.card
   pub stands : StillStands host.card after.card
   pub later : host.faults ≤ after.faults
-  pub done : Done → after.card ≡ host.card
+  pub same : Succeeded → after.card ≡ host.card
 
--- What calls by registers presume and leave. As many data lines are wired as C says, where the story is true of anything.
+-- by registers, as many data lines are wired as C says, where the story is true of anything
 abbrev pub IsWired : Stories → WayRecord → Type 0
 IsWired stories way =
     (way.by ≡ 0 → ⊥)
@@ -78,7 +78,8 @@ IsWired stories way =
 abbrev pub AtRegisters : Stories → WayRecord → Done → (ControllerView → Type 0) → Type 0
 AtRegisters stories way done Holds = (way.by ≡ 0 → ⊥) → Holds (stories.registers.controller done.accesses)
 
--- Nothing runs at the controller, and where a card is noted all is set as its next command needs it, and nothing is lent.
+-- What a call presumes, and what it leaves. By registers nothing runs at the controller; and where a card is noted all is set that its next
+-- command needs, and nothing is lent.
 pub record IsFit (stories : Stories) (way : WayRecord) (done : Done) (note : CardRecord) : Type 0 where
   pub wired : IsWired stories way
   pub still : AtRegisters stories way done IsNew
