@@ -3,4 +3,3 @@ pub mod MovedLemmas
 pub mod Runs
 pub mod TakenLemmas
 pub mod WritesLemmas
-pub mod WaysLemmas

@@ -9,10 +9,10 @@ use Rattle.sdhci_board.specs.declared.known.Slot.TheVariants.{AlwaysThere, Wired
 use Rattle.c_host.specs.declared.given.WayRecord.{WayRecord}
 use Rattle.c_host.specs.declared.kinds.Kinds.{Kinds}
 use Rattle.c_host.specs.declared.registers.CRegisters.{CRegisters}
-use Rattle.c_host.specs.declared.way.CFunctions.{CFunctions}
+use Rattle.c_host.specs.declared.functions.CFunctions.{CFunctions}
 use Rattle.c_host.specs.declared.stream.Stream.{Stream}
-use Rattle.c_host.specs.declared.way.Given.{Given}
-use Rattle.c_host.specs.declared.way.Given.TheVariants.{Host, Registers}
+use Rattle.c_host.specs.declared.given.Given.{Given}
+use Rattle.c_host.specs.declared.given.Given.TheVariants.{Host, Registers}
 
 -- eight data lines, four, or otherwise one; and high speed
 abbrev pub lines_by : ℕ → ℕ → Lines
@@ -59,7 +59,7 @@ pub record HasFunctions (way : WayRecord) (functions : CFunctions) : Type 0 wher
   pub kinds : functions.kinds ≡ kinds_by way
 
 -- 0 is a host, anything else registers
-abbrev pub IsGiven : WayRecord → Given CRegisters → Type 0
+abbrev pub IsGiven : WayRecord → Given → Type 0
 IsGiven way (Host functions) =
     (way.by ≡ 0) × HasFunctions way functions
 IsGiven way (Registers registers) = (way.by ≡ 0 → ⊥) × HasRegisters way registers

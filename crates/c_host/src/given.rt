@@ -2,10 +2,10 @@
 ghost use Rattle.std.specs.Prelude.{◌≡◌};
 ghost use Rattle.c_host.specs.Given.{IsGiven, kinds_by, lines_by, most_by, slot_by};
 
+use crate::functions::CFunctions;
 use crate::kinds::Kinds;
 use crate::registers::CRegisters;
 use crate::stream::Stream;
-use crate::way::{CFunctions, Given};
 use mmc_card::{Lines, Timing, Width};
 use sdhci_board::{Known, Slot};
 use std::mem::size_of;
@@ -41,6 +41,15 @@ pub struct WayRecord {
     pub without_sd: u8,
     /// A library without eMMC devices: not 0.
     pub without_mmc: u8,
+}
+
+/// What C gives.
+#[derive(Drop)]
+pub enum Given {
+    /// A host, which is told of decoded commands.
+    Host(CFunctions),
+    /// The registers of an SD host controller.
+    Registers(CRegisters),
 }
 
 // The most lines and the fastest timing.
@@ -93,7 +102,7 @@ pub fn most_by(way: &WayRecord) -> Width
 }
 
 /// What C gives, over a new stream.
-pub fn given_by(way: &WayRecord) -> Given<CRegisters>
+pub fn given_by(way: &WayRecord) -> Given
     ensures { IsGiven way.now result }
 {
     let stream = Stream::new(way.stream);

@@ -5,6 +5,7 @@
 #![tactic(auto)]
 
 mod diary;
+mod functions;
 mod given;
 mod kinds;
 mod lending;
@@ -15,10 +16,11 @@ mod stream;
 mod way;
 
 pub use diary::{Call, Diary, Note};
-pub use given::{WayRecord, given_by, kinds_by, most_by};
+pub use functions::CFunctions;
+pub use given::{Given, WayRecord, given_by, kinds_by, most_by};
 pub use kinds::Kinds;
 pub use lending::Lent;
 pub use lent::SectorsMut;
 pub use registers::CRegisters;
 pub use stream::Stream;
-pub use way::{CFunctions, CWay, Given, Way};
+pub use way::Way;

@@ -17,7 +17,7 @@ use crate::lending::Lent;
 use crate::records::{lent_at, table_at};
 use crate::stream::Stream;
 use mmc_bus::Blocks;
-use mmc_sdhci::{POWER, Registers, Table};
+use mmc_sdhci::{Registers, Table};
 use sdhci_board::{Known, byte_in, with_byte, word_at};
 
 /// Registers of an SD host controller that C reads and writes.
@@ -116,13 +116,6 @@ impl CRegisters {
         let word = self.stream.read_register(4, at);
         self.stream
             .write_register(4, at, with_byte(offset, word, value));
-    }
-
-    /// Takes the card's power (section 2.2.11).
-    pub fn switch_off(&mut self)
-        ensures { WritesByte self.old.is_by_words 0x29 0 self.old.stream.diary.past self.new.stream.diary.past }
-    {
-        self.write8(POWER, 0);
     }
 }
 

@@ -1,32 +1,30 @@
 -- What C is told of a request, and what was promised of it.
 use Rattle.std.proofs.Common.{◌∙◌, ◌≡◌, ap, refl, subst, sym}
 use Rattle.std.proofs.lemmas.Bool.{false≢true}
-use Rattle.std.specs.Prelude.{Bool, Err, IfErr, IfOk, IfSome, IsOk, List, None, Ok, Option, Result, Some, false, pos, true, ℕ, ℤ}
+use Rattle.std.specs.Prelude.{Bool, Err, IfErr, IfOk, IfSome, IsOk, None, Ok, Option, Result, Some, false, is_err, is_some, pos, true, ℕ, ℤ}
 use Rattle.mmc_bus.specs.declared.cause.Cause.{Cause}
 use Rattle.mmc_bus.specs.declared.cause.Cause.TheVariants.{Answer, Busy, Data, Recovery, Status}
 use Rattle.mmc_direct.proofs.NotedLemmas.{and_left}
-use Rattle.mmc_direct.specs.Noted.{IsCounted, Notes, lines_in}
-use Rattle.mmc_card.specs.declared.exchange.Lines.{Lines}
+use Rattle.mmc_direct.specs.Noted.{IsCounted, IsServed, Notes, bus_going_on, lines_in}
 use Rattle.mmc_card.specs.BusView.{BusView}
 use Rattle.mmc_direct.specs.Opened.{IsReadyAs}
 use Rattle.mmc_direct.specs.Served.{IfRefused, IfServed, refusal_in}
 use Rattle.mmc_direct.specs.declared.refused.NotDone.{NotDone}
+use Rattle.mmc_direct.specs.declared.served.Served.{Served}
+use Rattle.mmc_host.specs.Hosts.{HostView}
+use Rattle.mmc_switch.specs.Stands.{StandsIn}
+use Rattle.kelifandro.specs.Done.{OnlyTold}
 use Rattle.mmc_direct.specs.declared.refused.NotDone.TheVariants.{Failed, Refused as RefusedFor}
 use Rattle.mmc_requests.specs.declared.refused.Refused.{Refused}
 use Rattle.mmc_requests.specs.declared.refused.Refused.TheVariants.{Empty, NoSuchPartition, NoTrim, NotInPartition, OutOfRange, ReadOnly, TooLong, Unaligned}
 use Rattle.mmc_switch.specs.declared.stands.Stands.{Stands}
-use Rattle.mmc_host.specs.HostStates.{resting}
-use Rattle.mmc_host.specs.Hosts.{HostView}
-use Rattle.mmc_host.specs.declared.told.HostState.{HostState}
 use Rattle.c_host.specs.declared.given.WayRecord.{WayRecord}
 use Rattle.mmc_record.specs.Note.{IsNoteOf, is_note}
 use Rattle.mmc_record.specs.declared.record.CardRecord.{CardRecord}
 use Rattle.mmc_recovery.specs.declared.healed.Healed.{Healed}
-use Rattle.mmc_story.specs.Entry.{Entry}
-use Rattle.mmc_story.specs.Story.{IsTrueOf, Story, host_with}
 use Rattle.kelifandro.specs.Answers.{answer_number, cause_number, refused_number}
 use Rattle.kelifandro.specs.Longs.{begins_by}
-use Rattle.kelifandro.specs.Calls.{IfNoted, IsAsNoted, TellsCounts, TellsWhy, host_of, is_attempted, is_open}
+use Rattle.kelifandro.specs.Calls.{IfNoted, IsAsNoted, TellsCounts, TellsWhy, is_attempted, is_open}
 
 -- the number of an answer that refuses
 refused_answer : (answer : Result Unit NotDone) (why : Refused) → refusal_in answer ≡ Some why
@@ -122,20 +120,6 @@ pub as_noted : (note : CardRecord) (stands : Stands) → IsAsNoted stands note �
     → IfNoted note Holds
 as_noted note stands noted Holds holds other is = subst Holds (noted other is) holds
 
--- what holds of the host that a call goes on with holds of the story's, where the card was noted
-pub holds_as_noted : (story : Story) (note : CardRecord) (stands : Stands) (did past : List Entry) (state : HostState)
-    (own limits : Lines) → IsAsNoted stands note → past ≡ did → state ≡ resting (lines_in stands)
-    → ((host_with (story.outcome past) state own).is_kept ≡ true → limits ≡ own)
-    → (Holds : Stands → HostView → Type 0) → Holds stands (host_with (story.outcome past) state own)
-    → IsTrueOf story did → IfNoted note (λ s. Holds s (host_of story did s limits))
-holds_as_noted story note stands did past state own limits noted same rests within Holds holds so how is =
-    let able : own ≡ limits = sym (within (ap (λ (p : List Entry). (story.outcome p).conformed) same ∙ so)) in
-    let goes : host_with (story.outcome past) state own ≡ host_of story did stands limits =
-    ap (λ (p : List Entry). host_with (story.outcome p) state own) same
-    ∙ ap (λ (s : HostState). host_with (story.outcome did) s own) rests
-    ∙ ap (λ (l : Lines). host_with (story.outcome did) (resting (lines_in stands)) l) able in
-    subst (λ (s : Stands). Holds s (host_of story did s limits)) (noted how is) (subst (λ (h : HostView). Holds stands h) goes holds)
-
 -- of a request that is refused nothing has changed, and the record notes the card as it was noted
 pub unchanged_by : (P Q R : Type 0) (answer : Result Unit NotDone) → IfRefused answer (P × Q × R) → IfRefused answer Q
 unchanged_by P Q R (Ok done) holds = tt
@@ -173,10 +157,82 @@ refused_then (Ok done) then holds = tt
 refused_then (Err (RefusedFor why)) then holds = then holds
 refused_then (Err (Failed cause)) then holds = tt
 
+pub always_none : {A P : Type 0} (called : Result A ℤ) → P → IfErr called (λ n. P)
+always_none (Err number) holds = holds
+always_none (Ok came) holds = tt
+
+-- what holds after a call, whether it has come to a host or not
+pub either_call : {A D : Type 0} (called : Result A ℤ) (Holds : D → Type 0) (Then : Type 0) (middle end : D)
+    → IfErr called (λ n. Holds middle) → IfErr called (λ n. end ≡ middle) → IfOk called (λ came. Then) → (Then → Holds end)
+    → Holds end
+either_call (Err number) Holds Then middle end none same came then = subst Holds (sym same) none
+either_call (Ok done) Holds Then middle end none same came then = then came
+
+-- two facts of where a call came to no host
+pub both_none : {A P Q R : Type 0} (called : Result A ℤ) → (P → Q → R) → IfErr called (λ n. P) → IfErr called (λ n. Q)
+    → IfErr called (λ n. R)
+both_none (Err number) then p q = then p q
+both_none (Ok came) then p q = tt
+
 pub where_refused : {A P Q : Type 0} (answer : A → Result Unit NotDone) (called : Result A ℤ) → (P → Q)
     → IfOk called (λ came. IfRefused (answer came) P) → IfOk called (λ came. IfRefused (answer came) Q)
 where_refused answer (Err number) then holds = tt
 where_refused answer (Ok came) then holds = refused_then (answer came) then holds
+
+-- of what a call has left, where its request was refused, or wasn't
+pub untold_by : {B H : Type 0} (P Q : Type 0) (host : H) (Holds : H → Type 0) (answer : Result Unit NotDone) (end : Result B H)
+    → is_err end ≡ is_some (refusal_in answer) → IfRefused answer ((end ≡ Err host) × P × Q) → Holds host → IfErr end Holds
+untold_by P Q host Holds answer (Ok bus) refused untouched holds = tt
+untold_by P Q host Holds (Ok done) (Err left) refused untouched holds = absurd (false≢true (sym refused))
+untold_by P Q host Holds (Err (RefusedFor why)) (Err left) refused untouched holds =
+    let same : left ≡ host = let is = untouched.0 in cc in
+    subst Holds (sym same) holds
+untold_by P Q host Holds (Err (Failed cause)) (Err left) refused untouched holds = absurd (false≢true (sym refused))
+
+pub where_left : {B H : Type 0} {P Q : B → Type 0} (end : Result B H) → ((bus : B) → P bus → Q bus) → IfOk end P → IfOk end Q
+where_left (Ok bus) then holds = then bus holds
+where_left (Err host) then holds = tt
+
+-- what holds of every way holds of this one
+where_kept : {B H : Type 0} (Holds : H → WayRecord → Type 0) (end : Result B H) (way : WayRecord)
+    → IfErr end (λ host. (w : WayRecord) → Holds host w) → IfErr end (λ host. Holds host way)
+where_kept Holds (Err host) way all = all way
+where_kept Holds (Ok bus) way all = tt
+
+pub refused_at : {A B H : Type 0} (Holds : A → H → WayRecord → Type 0) (end : A → Result B H) (called : Result A ℤ) (way : WayRecord)
+    → IfOk called (λ came. IfErr (end came) (λ host. (w : WayRecord) → Holds came host w))
+    → IfOk called (λ came. IfErr (end came) (λ host. Holds came host way))
+refused_at Holds end (Err number) way all = tt
+refused_at Holds end (Ok came) way all = where_kept (Holds came) (end came) way all
+
+pub left_at : {A B H : Type 0} (Holds : A → B → WayRecord → Type 0) (end : A → Result B H) (called : Result A ℤ) (way : WayRecord)
+    → IfOk called (λ came. IfOk (end came) (λ bus. (w : WayRecord) → Holds came bus w))
+    → IfOk called (λ came. IfOk (end came) (λ bus. Holds came bus way))
+left_at Holds end (Err number) way all = tt
+left_at Holds end (Ok came) way all = where_left (end came) (λ bus each. each way) all
+
+-- a request was served over the host as it was before it was told its lines
+served_as : (Has : BusView → Served → BusView → Type 0) (stands : Stands) (was host : HostView) (answer : Result Unit NotDone)
+    (note : CardRecord) (end : BusView) → OnlyTold was host → (end.is_kept ≡ true → host.is_kept ≡ true)
+    → IsServed Has stands host answer note end → IsServed Has stands was answer note end
+served_as Has stands was host answer note end told was_kept s = record {
+  served = s.served;
+  answers = s.answers;
+  fits = s.fits;
+  notes = s.notes;
+  has = λ kept. subst (λ (h : HostView). StandsIn stands (bus_going_on h (lines_in stands))
+      → Has (bus_going_on h (lines_in stands)) s.served end) (told (was_kept kept)).1 (s.has kept);
+}
+
+pub served_noted : {B H : Type 0} (note : CardRecord) (stands : Stands) → IsAsNoted stands note
+    → (Has : Stands → BusView → Served → BusView → Type 0) (was host : HostView) (answer : Result Unit NotDone) (new : CardRecord)
+    (view : B → BusView) (end : Result B H) → OnlyTold was host → IfOk end (λ bus. (view bus).is_kept ≡ true → host.is_kept ≡ true)
+    → IfOk end (λ bus. IsServed (Has stands) stands host answer new (view bus))
+    → IfNoted note (λ how. IfOk end (λ bus. IsServed (Has how) how was answer new (view bus)))
+served_noted note stands noted Has was host answer new view (Ok bus) told was_kept served =
+    as_noted note stands noted (λ how. IsServed (Has how) how was answer new (view bus))
+    (served_as (Has stands) stands was host answer new (view bus) told was_kept served)
+served_noted note stands noted Has was host answer new view (Err left) told was_kept served = λ how says. tt
 
 opened_by : (b : Bool) → (b ≡ false → ⊥) → b ≡ true
 opened_by true not = refl
@@ -184,6 +240,9 @@ opened_by false not = absurd (not refl)
 
 ok_or_err : {A : Type 0} {came : A} {other : ℤ} → Ok came ≡ Err other → ⊥
 ok_or_err is = absurd (cc)
+
+pub is_noted : (way : WayRecord) (note : CardRecord) → true ≡ is_open way note → is_note note ≡ true
+is_noted way note opened = and_left (is_note note) _ (sym opened)
 
 -- a call that has come to a host is for a card that is noted
 pub open_by : {A : Type 0} (way : WayRecord) (note : CardRecord) (number : ℤ) (called : Result A ℤ)

@@ -1,56 +1,79 @@
 -- What a card with its history keeps true, call by call.
-use Rattle.std.proofs.Common.{◌∙◌, ◌≡◌, [], ◌∷◌, List, refl, subst, sym}
+use Rattle.std.proofs.Common.{◌∙◌, ◌≡◌, [], ◌∷◌, List, ap, refl, subst, sym}
 use Rattle.std.proofs.lemmas.Bool.{false≢true}
 use Rattle.mmc_block.specs.Alone.{idle}
 use Rattle.mmc_card.specs.Card.{holds}
+use Rattle.mmc_card.specs.declared.exchange.Lines.{Lines}
+use Rattle.mmc_host.specs.Hosts.{HostView}
 use Rattle.mmc_record.specs.declared.record.CardRecord.{CardRecord}
-use Rattle.mmc_story.specs.Entry.{Entry}
-use Rattle.mmc_story.specs.Story.{IsTrueOf, Story}
+use Rattle.mmc_sdhci.specs.Driver.{IsNew}
+use Rattle.c_host.specs.Given.{most_by}
 use Rattle.c_host.specs.declared.given.WayRecord.{WayRecord}
-use Rattle.kelifandro.specs.Calls.{limits_by}
-use Rattle.kelifandro.specs.History.{Call, GoesOn, HasServed, IsKept}
+use Rattle.kelifandro.specs.Done.{AtRegisters, Done, IsFit, IsTrueOf, OnlyTold, Stories, host_after, nothing_done}
+use Rattle.kelifandro.specs.History.{AreServed, Call, CardHistory, GoesOn, HasServed, IsKept}
 use Rattle.kelifandro.specs.History.Call.{Closed}
+use Rattle.kelifandro.proofs.DoneLemmas.{fit_closed, limits_stay}
 use Rattle.kelifandro.proofs.HistoryLemmas.{closed_more}
-use Rattle.kelifandro.proofs.OpeningLemmas.{closed}
+use Rattle.kelifandro.proofs.OpeningLemmas.{closed, stayed_told}
 
-module _ (story : Story) (way : WayRecord) where
-  abbrev pub Keeps : List Entry → CardRecord → List Call → Type 0
+-- one call more, by what contracts saw before it
+pub calls_seen : {was old : CardHistory} {calls : List Call} {call : Call} → was ≡ old → calls ≡ call ∷ was.calls
+    → calls ≡ call ∷ old.calls
+calls_seen {was} {old} {calls} {call} seen more = more ∙ ap (λ (h : CardHistory). call ∷ h.calls) seen
+
+module _ (stories : Stories) (way : WayRecord) where
+  abbrev pub Keeps : Done → CardRecord → List Call → Type 0
   Keeps did note calls =
-      way.by ≡ 0 → IsTrueOf story did → IsKept story way did note
-      × HasServed (limits_by way) (story.outcome []).card (story.outcome did).card calls
+      IsFit stories way did note
+      × (IsTrueOf stories way did → IsKept (host_after stories way did) note × AreServed stories way did calls)
 
-  begun : HasServed (limits_by way) (story.outcome []).card (story.outcome []).card []
+  abbrev after : Done → HostView
+  after did = host_after stories way did
+
+  begun : AreServed stories way nothing_done []
   begun = record {
-    machine = idle (holds (story.outcome []).card) 0;
+    machine = idle (holds (after nothing_done).card) 0;
     executed = refl;
     contents = λ p s v i. i;
     answered = refl;
     carried = record { made = refl; sizes = λ p. refl };
   }
 
-  pub begins : (did : List Entry) (note : CardRecord) (calls : List Call) → did ≡ [] → calls ≡ [] → note.state ≡ 0
-      → Keeps did note calls
-  begins did note calls nothing none zero = λ by is. (
-    (λ noted. absurd (false≢true (sym (closed note zero) ∙ noted))),
-    subst (λ (d : List Entry). HasServed (limits_by way) (story.outcome []).card (story.outcome d).card calls) (sym nothing)
-        (subst (λ (cs : List Call). HasServed (limits_by way) (story.outcome []).card (story.outcome []).card cs) (sym none) begun),
+  pub begins : (did : Done) (note : CardRecord) (calls : List Call) → did ≡ nothing_done → calls ≡ [] → note.state ≡ 0
+      → ((way.by ≡ 0 → ⊥) → stories.registers.built.wired ≡ most_by way) → Keeps did note calls
+  begins did note calls nothing none zero wired = (
+    fit_closed stories way did note (λ registers accesses is. wired registers)
+        (subst (λ (d : Done). AtRegisters stories way d IsNew) (sym nothing) (λ registers. stories.registers.begins)) (closed note zero),
+    λ is. (
+      (λ noted. absurd (false≢true (sym (closed note zero) ∙ noted))),
+      subst (λ (d : Done). AreServed stories way d calls) (sym nothing)
+          (subst (λ (cs : List Call). AreServed stories way nothing_done cs) (sym none) begun),
+    ),
   )
 
-  pub continues : (did does : List Entry) (note new : CardRecord) (earlier calls : List Call) (call : Call) → Keeps did note earlier
-      → (way.by ≡ 0 → IsTrueOf story does → GoesOn story way call did note does new) → calls ≡ call ∷ earlier → Keeps does new calls
-  continues did does note new earlier calls call keeps goes same = λ by is.
-      let on = goes by is in
-      let old = keeps by on.was_true in (
-        on.kept old.0,
-        subst (λ (cs : List Call). HasServed (limits_by way) (story.outcome []).card (story.outcome does).card cs) (sym same)
-            (on.served old.0 (story.outcome []).card earlier old.1),
-      )
+  pub continues : (did does : Done) (note new : CardRecord) (earlier calls : List Call) (call : Call) → Keeps did note earlier
+      → IsFit stories way does new
+      → (IsTrueOf stories way does → GoesOn call (after did) note (after does) new) → calls ≡ call ∷ earlier → Keeps does new calls
+  continues did does note new earlier calls call keeps fit goes same = (
+    fit,
+    λ is.
+        let on = goes is in
+        let old = keeps.1 on.was_true in (
+          on.kept old.0,
+          subst (λ (cs : List Call). AreServed stories way does cs) (sym same) (on.served old.0 (after nothing_done).card earlier old.1),
+        ),
+  )
 
-  pub closes : (did : List Entry) (note new : CardRecord) (earlier calls : List Call) → Keeps did note earlier → new.state ≡ 0
-      → calls ≡ Closed ∷ earlier → Keeps did new calls
-  closes did note new earlier calls keeps zero same = λ by is. (
-    (λ noted. absurd (false≢true (sym (closed new zero) ∙ noted))),
-    subst (λ (cs : List Call). HasServed (limits_by way) (story.outcome []).card (story.outcome did).card cs) (sym same)
-        (closed_more (limits_by way) (story.outcome []).card (story.outcome did).card (story.outcome did).card earlier
-        (record { made = refl; sizes = λ p. refl }) (λ p s v i. i) (keeps by is).1),
+  pub closes : (did does : Done) (note new : CardRecord) (earlier calls : List Call) → Keeps did note earlier → new.state ≡ 0
+      → OnlyTold (after did) (after does) → AtRegisters stories way does IsNew → calls ≡ Closed ∷ earlier → Keeps does new calls
+  closes did does note new earlier calls keeps zero told still same = (
+    fit_closed stories way does new keeps.0.wired still (closed new zero),
+    λ is.
+        let stays = stayed_told (after did) (after does) told is in (
+          (λ noted. absurd (false≢true (sym (closed new zero) ∙ noted))),
+          subst (λ (cs : List Call). AreServed stories way does cs) (sym same)
+              (closed_more (after does).limits (after nothing_done).card (after did).card (after does).card earlier stays.carried stays.narrows
+              (subst (λ (l : Lines). HasServed l (after nothing_done).card (after did).card earlier) (sym (limits_stay stories way does did))
+              (keeps.1 stays.was_true).1)),
+        ),
   )

@@ -1,5 +1,6 @@
 pub mod CallLemmas
 pub mod CardLemmas
+pub mod DoneLemmas
 pub mod GoesOnLemmas
 pub mod HistoryLemmas
 pub mod OpeningLemmas

@@ -1,4 +1,5 @@
 -- A request of C, before its run and after it.
+use borrow.Rule.Slice.PartMut.{mid_of, put_mid, put_same}
 use Rattle.std.proofs.Common.{◌∙◌, ◌≡◌, ap, refl, subst, sym}
 use Rattle.std.proofs.lemmas.Bool.{false≢true}
 use Rattle.std.specs.Prelude.{Bool, Err, IfOk, List, None, Ok, Option, Result, Some, false, option_map, true, ℕ}
@@ -50,3 +51,9 @@ pub named_kind : (given : AskedRecord) (found : Option Part) (asked : Asked) →
 named_kind given None asked is = absurd cc
 named_kind given (Some part) asked is =
     let named : asked ≡ named_by given part = cc in ap (λ (a : Asked). a.kind) named
+
+-- a part that is put back as it was leaves the whole as it was
+pub kept_part : {X : Type 0} (from count : ℕ) (blocks part was : List X) → part ≡ mid_of from count blocks → blocks ≡ was
+    → put_mid from count blocks part ≡ was
+kept_part {X} from count blocks part was same kept =
+    ap (λ (p : List X). put_mid from count blocks p) same ∙ put_same from count blocks ∙ kept

@@ -1,21 +1,15 @@
 -- What a call begins with, and what becomes of it.
-use Rattle.std.specs.Prelude.{◌&&◌, ◌==◌, ◌≡◌, Bool, List, None, Option, Result, Some, nat_lt, negsuc, pos, true, ℕ, ℤ}
-use Rattle.mmc_direct.specs.Noted.{IsCounted, lines_in}
-use Rattle.mmc_card.specs.Limits.{fewer}
-use Rattle.mmc_card.specs.declared.exchange.Lines.{Lines}
+use Rattle.std.specs.Prelude.{◌&&◌, ◌==◌, ◌≡◌, Bool, None, Option, Result, Some, nat_lt, negsuc, pos, true, ℕ, ℤ}
+use Rattle.mmc_direct.specs.Noted.{IsCounted}
 use Rattle.mmc_card.specs.declared.part.Part.{Part}
 use Rattle.mmc_direct.specs.declared.refused.NotDone.{NotDone}
 use Rattle.mmc_requests.specs.declared.refused.Refused.{Refused}
 use Rattle.mmc_switch.specs.declared.stands.Stands.{Stands}
-use Rattle.mmc_host.specs.HostStates.{resting}
-use Rattle.mmc_host.specs.Hosts.{HostView}
 use Rattle.mmc_record.specs.Note.{IsNoteOf, is_note}
 use Rattle.mmc_record.specs.Numbers.{kind_of, part_of}
 use Rattle.mmc_record.specs.declared.record.CardRecord.{CardRecord}
 use Rattle.mmc_recovery.specs.declared.healed.Healed.{Healed}
-use Rattle.mmc_story.specs.Entry.{Entry}
-use Rattle.mmc_story.specs.Story.{Story, host_with}
-use Rattle.c_host.specs.Given.{kinds_by, lines_by, most_by}
+use Rattle.c_host.specs.Given.{kinds_by}
 use Rattle.c_host.specs.Kinds.{serves}
 use Rattle.c_host.specs.declared.given.WayRecord.{WayRecord}
 use Rattle.kelifandro.specs.Answers.{answer_number, refused_number}
@@ -39,18 +33,6 @@ IfOpen way note Holds = is_open way note ≡ true → IfNoted note Holds
 -- where there is a partition of this number, this holds of it
 abbrev pub IfMeant : ℕ → (Part → Type 0) → Type 0
 IfMeant number Holds = (part : Part) → part_of number ≡ Some part → Holds part
-
--- what a host of such a way can, that says this of it
-abbrev pub limits_within : WayRecord → Lines → Lines
-limits_within way limits = record limits { width = fewer limits.width (most_by way) }
-
--- what a host of C's functions can
-abbrev pub limits_by : WayRecord → Lines
-limits_by way = limits_within way (lines_by way.lines way.high_speed)
-
--- the host that a call goes on with: the card of the story after what was done, between two commands, on the lines that are noted
-abbrev pub host_of : Story → List Entry → Stands → Lines → HostView
-host_of story did stands limits = host_with (story.outcome did) (resting (lines_in stands)) limits
 
 -- the number of a request that was attempted: it is done, or has failed
 abbrev pub is_attempted : ℤ → Bool

@@ -16,18 +16,17 @@ use Rattle.mmc_queue.specs.declared.request.Request.TheVariants.{Erase, Read, Tr
 use Rattle.mmc_block.specs.Alone.{IsServedAlone, idle}
 use Rattle.mmc_block.specs.Machine.{Machine}
 use Rattle.mmc_block.specs.declared.completion.Answer.{Answer}
-use Rattle.mmc_block.specs.declared.completion.Answer.TheVariants.{Data, Done, Failed}
+use Rattle.mmc_block.specs.declared.completion.Answer.TheVariants as Gave
 use Rattle.mmc_direct.specs.Noted.{IsNotedOf, bus_going_on}
 use Rattle.mmc_direct.specs.Opened.{IsReadyAs}
 use Rattle.mmc_direct.specs.declared.asked.Asked.{Asked}
-use Rattle.mmc_host.specs.HostStates.{begun}
+use Rattle.mmc_host.specs.Hosts.{HostView}
 use Rattle.mmc_record.specs.Note.{is_note}
 use Rattle.mmc_record.specs.declared.record.CardRecord.{CardRecord}
-use Rattle.mmc_story.specs.Entry.{Entry}
-use Rattle.mmc_story.specs.Story.{IsTrueOf, Outcome, Story, host_with}
 use Rattle.c_host.specs.declared.given.WayRecord.{WayRecord}
 use Rattle.kelifandro.specs.Answers.{cause_number}
-use Rattle.kelifandro.specs.Calls.{is_attempted, limits_by}
+use Rattle.kelifandro.specs.Calls.{is_attempted}
+use Rattle.kelifandro.specs.Done.{Done, IsTrueOf, Stories, host_after, nothing_done}
 
 -- A request, with what its memory held before and holds after it, and the number that it was answered.
 pub record Told : Type 0 where
@@ -60,9 +59,9 @@ request_of asked memory = request_by asked.kind asked.part asked.start asked.cou
 
 -- The number tells this answer, and what a read gives is what memory holds then.
 abbrev pub TellsAnswer : ℤ → List Sector → Answer → Type 0
-TellsAnswer number after Done = number ≡ pos 0
-TellsAnswer number after (Data bytes) = (number ≡ pos 0) × (bytes ≡ joined after)
-TellsAnswer number after (Failed cause) = number ≡ cause_number cause
+TellsAnswer number after Gave.Done = number ≡ pos 0
+TellsAnswer number after (Gave.Data bytes) = (number ≡ pos 0) × (bytes ≡ joined after)
+TellsAnswer number after (Gave.Failed cause) = number ≡ cause_number cause
 
 -- It was submitted to the machine at which nothing waited, and answered by the turn after it; this is known of the card by its registers.
 pub record IsAnswered (limits : Lines) (made : Made) (old : Machine) (told : Told) (new : Machine) : Type 0 where
@@ -101,42 +100,43 @@ pub record HasServed (limits : Lines) (start now : Card) (calls : List Call) : T
   -- it is the same card, with as many sectors
   pub carried : Carried start now
 
--- A card that is noted stands so, after what was done, behind the functions of such a way.
-abbrev pub IsKept : Story → WayRecord → List Entry → CardRecord → Type 0
-IsKept story way did note = is_note note ≡ true → IsNotedOf note (host_with (story.outcome did) begun (limits_by way))
+-- A card that is noted stands so, behind this host.
+abbrev pub IsKept : HostView → CardRecord → Type 0
+IsKept host note = is_note note ≡ true → IsNotedOf note host
 
 -- A card was opened, or wasn't: it is the same one, and no sector may hold more.
-pub record HasStayed (old new : Outcome) : Type 0 where
-  pub was_true : old.conformed ≡ true
+pub record HasStayed (old new : HostView) : Type 0 where
+  pub was_true : old.is_kept ≡ true
   pub carried : Carried old.card new.card
   pub later : old.faults ≤ new.faults
   pub narrows : Within (holds new.card) (holds old.card)
 
--- It is ready, as the record notes, behind a host that can so much.
-pub record IsOpened (way : WayRecord) (now : Outcome) (note : CardRecord) : Type 0 where
-  pub limits : Lines
-  pub functions : way.by ≡ 0 → limits ≡ limits_by way
+-- It is ready, as the record notes, behind this host.
+pub record IsOpened (now : HostView) (note : CardRecord) : Type 0 where
   pub lines : Lines
-  pub ready : IsReadyAs note (bus_going_on (host_with now begun limits) lines)
+  pub ready : IsReadyAs note (bus_going_on now lines)
 
--- One call more, where the story is true of what was done in it too.
-pub record GoesOn (story : Story) (way : WayRecord) (call : Call) (did : List Entry) (note : CardRecord) (does : List Entry)
-    (notes : CardRecord) : Type 0 where
-  pub was_true : IsTrueOf story did
-  pub kept : IsKept story way did note → IsKept story way does notes
-  pub served : IsKept story way did note → (start : Card) (earlier : List Call)
-      → HasServed (limits_by way) start (story.outcome did).card earlier
-      → HasServed (limits_by way) start (story.outcome does).card (call ∷ earlier)
+-- One call more, from the host before it, with this record, to the host after it.
+pub record GoesOn (call : Call) (old : HostView) (note : CardRecord) (new : HostView) (notes : CardRecord) : Type 0 where
+  pub was_true : old.is_kept ≡ true
+  pub kept : IsKept old note → IsKept new notes
+  pub served : IsKept old note → (start : Card) (earlier : List Call) → HasServed old.limits start old.card earlier
+      → HasServed new.limits start new.card (call ∷ earlier)
 
 -- What contracts see of a card with its history: what was done and what was called so far, the last one first.
 pub record CardHistory : Type 0 where
   pub way : WayRecord
-  pub did : List Entry
+  pub did : Done
   pub calls : List Call
 
+-- These calls, the last one first, are a run of the sector machine, from the card as the story has it at first to the card as it has it
+-- after what was done.
+abbrev pub AreServed : Stories → WayRecord → Done → List Call → Type 0
+AreServed stories way done calls =
+    HasServed (host_after stories way done).limits (host_after stories way nothing_done).card (host_after stories way done).card calls
+
 -- One call more. Where the story is true of what was done so far all calls together are a run of the sector machine.
-pub record Continues (story : Story) (old : CardHistory) (call : Call) (new : CardHistory) : Type 0 where
+pub record Continues (stories : Stories) (old : CardHistory) (call : Call) (new : CardHistory) : Type 0 where
   pub way : new.way ≡ old.way
   pub calls : new.calls ≡ call ∷ old.calls
-  pub served : new.way.by ≡ 0 → IsTrueOf story new.did
-      → HasServed (limits_by new.way) (story.outcome []).card (story.outcome new.did).card new.calls
+  pub served : IsTrueOf stories new.way new.did → AreServed stories new.way new.did new.calls

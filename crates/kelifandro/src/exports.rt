@@ -17,13 +17,13 @@ ghost use Rattle.kelifandro.specs.Longs.{long_refusal, whole_of};
 use crate::answers::NO_PARTITION;
 use crate::asked::{AskedRecord, part_with};
 use crate::calls::open_card;
+use crate::did::Did;
 use crate::longs::serve_long;
 use crate::opening::open_by;
 use crate::requests::serve_told;
 use c_host::WayRecord;
 use mmc_record::CardRecord;
 use mmc_recovery::Healed;
-use mmc_story::Diary;
 use std::marker::Brand;
 
 /// Opens a card.
@@ -37,7 +37,7 @@ pub extern "C" fn kelifandro_open_by(
     ensures not_open { (result ≡ pos 0 → ⊥) → card.new.state ≡ 0 }
     ensures opened { result ≡ pos 0 → is_note card.new ≡ true }
 {
-    open_by::<Brand>(way, card, healed, &mut Diary::new())
+    open_by::<Brand>(way, card, healed, &mut Did::new())
 }
 
 /// Serves a request: a read, a write, an erase or a trim.
@@ -59,7 +59,7 @@ pub extern "C" fn kelifandro_serve_by(
     ensures kept { is_read (kind_with request.now.kind) ≡ false → blocks.new ≡ blocks.old }
 {
     match request.asked() {
-        Some(asked) => serve_told::<Brand>(way, card, healed, &asked, blocks, &mut Diary::new()),
+        Some(asked) => serve_told::<Brand>(way, card, healed, &asked, blocks, &mut Did::new()),
         None => NO_PARTITION,
     }
 }
@@ -92,7 +92,7 @@ pub extern "C" fn kelifandro_serve_long_by(
             &asked,
             blocks,
             done,
-            &mut Diary::new(),
+            &mut Did::new(),
         ),
         None => {
             *done = 0;

@@ -2,7 +2,8 @@
 // export makes, and no other: for auditors.
 ghost use Rattle.kelifandro.specs.History.Call.{Closed, Opened, Served};
 
-use crate::closing::kelifandro_close_by;
+use crate::did::Did;
+use crate::hosts::switch_off;
 use crate::noting::{Called, Closing, Opening, Serving, Shown};
 use crate::opening::open_by;
 use crate::requests::serve_told;
@@ -11,50 +12,55 @@ use ghost_diary::Seen;
 use mmc_direct::Asked;
 use mmc_record::CardRecord;
 use mmc_recovery::Healed;
-use mmc_story::{Diary, HasStory};
+use mmc_story::HasStory;
+use sdhci_story::HasRegisterStory;
 use std::marker::{Model, PhantomData};
 
 /// A card, what C keeps of it between two calls, and the calls so far.
 #[derive(Drop)]
-pub struct Card<S: HasStory> {
+pub struct Card<S: HasStory + HasRegisterStory> {
     way: WayRecord,
     card: CardRecord,
     healed: Healed,
     // what its host did
-    did: Diary,
+    did: Did,
     calls: ghost_diary::Diary<Called>,
     of: PhantomData<S>,
 }
 
-impl<S: HasStory> Model for Card<S> {
-    ghost use Rattle.std.specs.Prelude.{◌≡◌, []};
-    ghost use Rattle.mmc_story.specs.Story.{IsTrueOf};
-    ghost use Rattle.kelifandro.specs.Calls.{limits_by};
-    ghost use Rattle.kelifandro.specs.History.{CardHistory, HasServed, IsKept};
+impl<S: HasStory + HasRegisterStory> Model for Card<S> {
+    ghost use Rattle.kelifandro.specs.Done.{IsFit, IsTrueOf, done_of, host_after, stories_of};
+    ghost use Rattle.kelifandro.specs.History.{AreServed, CardHistory, IsKept};
 
     ghost Value = { CardHistory };
 
-    ghost view = { λ c. record { way = c.way; did = c.did.past; calls = c.calls.past } };
+    ghost view = { λ c. record { way = c.way; did = done_of c.did; calls = c.calls.past } };
 
-    ghost invariant = { λ c. c.way.by ≡ 0 → IsTrueOf S.story c.did.past → IsKept S.story c.way c.did.past c.card
-        × HasServed (limits_by c.way) (S.story.outcome []).card (S.story.outcome c.did.past).card c.calls.past };
+    ghost invariant = { λ c. IsFit (stories_of S.HasStory.story S.HasRegisterStory.story) c.way (done_of c.did) c.card
+        × (IsTrueOf (stories_of S.HasStory.story S.HasRegisterStory.story) c.way (done_of c.did)
+        → IsKept (host_after (stories_of S.HasStory.story S.HasRegisterStory.story) c.way (done_of c.did)) c.card
+        × AreServed (stories_of S.HasStory.story S.HasRegisterStory.story) c.way (done_of c.did) c.calls.past) };
 }
 
-impl<S: HasStory> Card<S> {
+impl<S: HasStory + HasRegisterStory> Card<S> {
     ghost use Rattle.std.specs.Prelude.{◌≡◌, []};
+    ghost use Rattle.c_host.specs.Given.{most_by};
+    ghost use Rattle.kelifandro.specs.Done.{nothing_done, stories_of};
     ghost use Rattle.kelifandro.specs.History.{Continues};
 
-    /// A card that isn't open, by this way, with a record of none, whatever else that holds.
+    /// A card that isn't open, by this way, with a record of none, whatever else that holds. By registers, as many data lines are wired to
+    /// the slot as the way says.
     pub fn new(way: WayRecord, card: CardRecord) -> Card<S>
-        requires { card.state ≡ 0 }
+        requires closed { card.state ≡ 0 }
+        requires wired { (way.by ≡ 0 → ⊥) → S.HasRegisterStory.story.built.wired ≡ most_by way }
         ensures way { result.way ≡ way }
-        ensures calls { (result.calls ≡ []) × (result.did ≡ []) }
+        ensures calls { (result.calls ≡ []) × (result.did ≡ nothing_done) }
     {
         Card {
             way,
             card,
             healed: Healed::new(),
-            did: Diary::new(),
+            did: Did::new(),
             calls: ghost_diary::Diary::new(),
             of: PhantomData,
         }
@@ -62,7 +68,7 @@ impl<S: HasStory> Card<S> {
 
     /// Opens the card.
     pub fn open(&mut self) -> i32
-        ensures continues { Continues S.story self.old (Opened result) self.new }
+        ensures continues { Continues (stories_of S.HasStory.story S.HasRegisterStory.story) self.old (Opened result) self.new }
     {
         let number = open_by::<S>(&self.way, &mut self.card, &mut self.healed, &mut self.did);
         self.calls = self.calls.then(&Opening { number });
@@ -71,7 +77,7 @@ impl<S: HasStory> Card<S> {
 
     /// Serves a request with this memory.
     pub fn serve(&mut self, asked: &Asked, blocks: &mut [[u8; 512]]) -> i32
-        ensures continues { Continues S.story self.old
+        ensures continues { Continues (stories_of S.HasStory.story S.HasRegisterStory.story) self.old
             (Served (record { asked = asked.now; before = blocks.old; after = blocks.new; number = result })) self.new }
     {
         let before = Seen::of(&Shown { blocks });
@@ -94,10 +100,10 @@ impl<S: HasStory> Card<S> {
 
     /// Closes the card.
     pub fn close(&mut self)
-        ensures continues { Continues S.story self.old Closed self.new }
+        ensures continues { Continues (stories_of S.HasStory.story S.HasRegisterStory.story) self.old Closed self.new }
     {
         self.card.state = 0;
-        kelifandro_close_by(&self.way);
+        switch_off::<S>(&self.way, &mut self.did);
         self.calls = self.calls.then(&Closing);
     }
 }

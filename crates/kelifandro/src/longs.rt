@@ -4,17 +4,20 @@ ghost use Rattle.mmc_requests.specs.Kinds.{is_read};
 ghost use Rattle.mmc_switch.specs.Stands.{info_of};
 ghost use Rattle.kelifandro.specs.Answers.{minus, refused_number};
 ghost use Rattle.kelifandro.specs.Calls.{IfOpen, is_attempted, is_open};
+ghost use Rattle.kelifandro.specs.Done.{IsFit, done_of, stories_of};
 ghost use Rattle.kelifandro.specs.Longs.{begins_by, long_refusal, longest, whole_of};
 
 use crate::answers::{DONE, NOT_OPEN, refused_number};
 use crate::calls::open_card;
+use crate::did::Did;
 use crate::requests::serve_told;
 use c_host::{Stream, WayRecord};
 use mmc_direct::Asked;
 use mmc_record::CardRecord;
 use mmc_recovery::Healed;
 use mmc_requests::sectors_refusal;
-use mmc_story::{Diary, HasStory};
+use mmc_story::HasStory;
+use sdhci_story::HasRegisterStory;
 
 // The most sectors that a part names: as many as a table has lines for, of 12 bytes and 64 sectors each.
 fn longest(way: &WayRecord) -> u32
@@ -30,20 +33,22 @@ fn longest(way: &WayRecord) -> u32
 }
 
 // Serves the parts, one after the other, until one isn't done. Tells how many sectors are done before that one.
-fn serve_parts<S: HasStory>(
+fn serve_parts<S: HasStory + HasRegisterStory>(
     way: &WayRecord,
     card: &mut CardRecord,
     healed: &mut Healed,
     asked: &Asked,
     blocks: &mut [[u8; 512]],
     done: &mut u64,
-    did: &mut Diary,
+    did: &mut Did,
 ) -> i32
-    requires { done.old ≡ 0 }
+    requires none { done.old ≡ 0 }
+    requires fit { IsFit (stories_of S.HasStory.story S.HasRegisterStory.story) way.now (done_of did.old) card.old }
     ensures within { done.new ≤ length blocks.old }
     ensures whole { result ≡ pos 0 → done.new ≡ length blocks.old }
     ensures less { (result ≡ pos 0 → ⊥) → done.new < length blocks.old }
     ensures kept { is_read asked.now.kind ≡ false → blocks.new ≡ blocks.old }
+    ensures fit_again { IsFit (stories_of S.HasStory.story S.HasRegisterStory.story) way.now (done_of did.new) card.new }
 {
     let count = blocks.len() as u64;
     let most = longest(way);
@@ -95,15 +100,16 @@ fn may_begin(way: &WayRecord, card: &CardRecord, asked: &Asked) -> Result<(), i3
 
 /// Serves a long request, of which nothing is done where its sectors don't all lie in the partition. How many they are the memory tells,
 /// and `done` how many are done.
-pub fn serve_long<S: HasStory>(
+pub fn serve_long<S: HasStory + HasRegisterStory>(
     way: &WayRecord,
     card: &mut CardRecord,
     healed: &mut Healed,
     asked: &Asked,
     blocks: &mut [[u8; 512]],
     done: &mut u64,
-    did: &mut Diary,
+    did: &mut Did,
 ) -> i32
+    requires fit { IsFit (stories_of S.HasStory.story S.HasRegisterStory.story) way.now (done_of did.old) card.old }
     ensures not_open { is_open way.now card.old ≡ false → (result ≡ minus 1) × (done.new ≡ 0) }
     ensures refused { IfOpen way.now card.old (λ stands. IfSome (long_refusal (info_of stands) (whole_of asked.now blocks.old)) (λ why.
         (result ≡ refused_number why) × (done.new ≡ 0) × (blocks.new ≡ blocks.old) × (healed.new ≡ healed.old))) }
@@ -111,6 +117,7 @@ pub fn serve_long<S: HasStory>(
     ensures whole { result ≡ pos 0 → done.new ≡ length blocks.old }
     ensures less { is_attempted result ≡ true → (result ≡ pos 0 → ⊥) → done.new < length blocks.old }
     ensures kept { is_read asked.now.kind ≡ false → blocks.new ≡ blocks.old }
+    ensures fit_again { IsFit (stories_of S.HasStory.story S.HasRegisterStory.story) way.now (done_of did.new) card.new }
 {
     *done = 0;
     let whole = Asked {

@@ -7,20 +7,23 @@ ghost use Rattle.mmc_recovery.specs.Healed.{none_met};
 ghost use Rattle.mmc_direct.specs.Opened.{IsReadyAs};
 ghost use Rattle.mmc_record.specs.Note.{IsNoteOf, is_note};
 ghost use Rattle.mmc_switch.specs.declared.stands.Stands.{Stands};
-ghost use Rattle.mmc_story.specs.Story.{IsTrueOf};
+ghost use Rattle.mmc_sdhci.specs.Driver.{IsNew};
 ghost use Rattle.kelifandro.specs.Answers.{is_unready, minus};
+ghost use Rattle.kelifandro.specs.Done.{AtRegisters, IsFit, IsTrueOf, IsWired, done_of, host_after, stories_of};
 ghost use Rattle.kelifandro.specs.History.Call.{Opened};
 ghost use Rattle.kelifandro.specs.History.{GoesOn, HasStayed, IsOpened};
 
 use crate::answers::{DONE, NO_CARD, UNSUPPORTED, unopened_number};
-use crate::calls::begin;
-use c_host::{WayRecord, given_by};
+use crate::did::Did;
+use crate::hosts::{begin, end_over, switch_off, switch_on};
+use c_host::WayRecord;
 use mmc_bus::Bus;
 use mmc_direct::{open, stands_by};
 use mmc_host::HostBus;
 use mmc_record::CardRecord;
 use mmc_recovery::Healed;
-use mmc_story::{Diary, HasStory, StoryHost};
+use mmc_story::HasStory;
+use sdhci_story::HasRegisterStory;
 
 // Whether a card is noted; the record of none is that of no card.
 fn is_noted(card: &mut CardRecord) -> bool
@@ -56,30 +59,36 @@ fn open_over<B: Bus>(bus: &mut B, card: &mut CardRecord, healed: &mut Healed) ->
 
 // Opens a card with power.
 #[inline(never)]
-fn open_once<S: HasStory>(
+fn open_once<S: HasStory + HasRegisterStory>(
     way: &WayRecord,
     card: &mut CardRecord,
     healed: &mut Healed,
-    did: &mut Diary,
+    did: &mut Did,
 ) -> i32
+    requires wired { IsWired (stories_of S.HasStory.story S.HasRegisterStory.story) way.now }
+    requires still { AtRegisters (stories_of S.HasStory.story S.HasRegisterStory.story) way.now (done_of did.old) IsNew }
     ensures not_open { (result ≡ pos 0 → ⊥) → card.new.state ≡ 0 }
     ensures noted { result ≡ pos 0 → is_note card.new ≡ true }
     ensures healed { healed.new ≡ none_met }
     ensures no_host { is_unready result ≡ true → card.new ≡ record card.old { state = 0 } }
     ensures functions { way.now.by ≡ 0 → is_unready result ≡ false }
     ensures no_card { result ≡ minus 20 → card.new ≡ record card.old { state = 0 } }
-    ensures stays { IsTrueOf S.story did.new.past → HasStayed (S.story.outcome did.old.past) (S.story.outcome did.new.past) }
-    ensures opened { IsTrueOf S.story did.new.past → result ≡ pos 0 → IsOpened way.now (S.story.outcome did.new.past) card.new }
-    ensures refused { IsTrueOf S.story did.new.past → InProfile (S.story.outcome did.old.past).card.made → (result ≡ pos 0 → ⊥)
-        → is_unready result ≡ false → (S.story.outcome did.old.past).faults + 3 ≤ (S.story.outcome did.new.past).faults }
+    ensures stays { IsTrueOf (stories_of S.HasStory.story S.HasRegisterStory.story) way.now (done_of did.new) → HasStayed (host_after (stories_of S.HasStory.story S.HasRegisterStory.story) way.now (done_of did.old))
+        (host_after (stories_of S.HasStory.story S.HasRegisterStory.story) way.now (done_of did.new)) }
+    ensures opened { IsTrueOf (stories_of S.HasStory.story S.HasRegisterStory.story) way.now (done_of did.new) → result ≡ pos 0
+        → IsOpened (host_after (stories_of S.HasStory.story S.HasRegisterStory.story) way.now (done_of did.new)) card.new }
+    ensures refused { IsTrueOf (stories_of S.HasStory.story S.HasRegisterStory.story) way.now (done_of did.new)
+        → InProfile (host_after (stories_of S.HasStory.story S.HasRegisterStory.story) way.now (done_of did.old)).card.made
+        → (result ≡ pos 0 → ⊥) → is_unready result ≡ false
+        → (host_after (stories_of S.HasStory.story S.HasRegisterStory.story) way.now (done_of did.old)).faults + 3
+        ≤ (host_after (stories_of S.HasStory.story S.HasRegisterStory.story) way.now (done_of did.new)).faults }
+    ensures fit { IsFit (stories_of S.HasStory.story S.HasRegisterStory.story) way.now (done_of did.new) card.new }
 {
     match begin::<S>(way, did) {
         Ok(host) => {
             let mut bus = HostBus::new(host);
             let number = open_over(&mut bus, card, healed);
-            let (mut way, does) = StoryHost::ended(bus);
-            way.end(number != DONE);
-            *did = does;
+            end_over::<S>(bus, number != DONE, did);
             number
         }
         Err(number) => {
@@ -92,32 +101,43 @@ fn open_once<S: HasStory>(
 
 /// Opens a card. Where its power can be switched it is on, and a card that doesn't answer has been without it once: what the host did before
 /// that and after it is one diary, in which a story has the loss of power as a fault of the next exchange.
-pub fn open_by<S: HasStory>(
+pub fn open_by<S: HasStory + HasRegisterStory>(
     way: &WayRecord,
     card: &mut CardRecord,
     healed: &mut Healed,
-    did: &mut Diary,
+    did: &mut Did,
 ) -> i32
+    requires fit { IsFit (stories_of S.HasStory.story S.HasRegisterStory.story) way.now (done_of did.old) card.old }
     ensures not_open { (result ≡ pos 0 → ⊥) → card.new.state ≡ 0 }
     ensures noted { result ≡ pos 0 → is_note card.new ≡ true }
     ensures healed { healed.new ≡ none_met }
     ensures no_host { is_unready result ≡ true → card.new ≡ record card.old { state = 0 } }
     ensures functions { way.now.by ≡ 0 → is_unready result ≡ false }
-    ensures stays { IsTrueOf S.story did.new.past → HasStayed (S.story.outcome did.old.past) (S.story.outcome did.new.past) }
-    ensures opened { IsTrueOf S.story did.new.past → result ≡ pos 0 → IsOpened way.now (S.story.outcome did.new.past) card.new }
-    ensures refused { IsTrueOf S.story did.new.past → InProfile (S.story.outcome did.old.past).card.made → (result ≡ pos 0 → ⊥)
-        → is_unready result ≡ false → (S.story.outcome did.old.past).faults + 3 ≤ (S.story.outcome did.new.past).faults }
-    ensures again { IsTrueOf S.story did.new.past → InProfile (S.story.outcome did.old.past).card.made → (way.now.switches_power ≡ 0 → ⊥)
-        → result ≡ minus 20 → (S.story.outcome did.old.past).faults + 6 ≤ (S.story.outcome did.new.past).faults }
-    ensures goes_on { way.now.by ≡ 0 → IsTrueOf S.story did.new.past
-        → GoesOn S.story way.now (Opened result) did.old.past card.old did.new.past card.new }
+    ensures stays { IsTrueOf (stories_of S.HasStory.story S.HasRegisterStory.story) way.now (done_of did.new) → HasStayed (host_after (stories_of S.HasStory.story S.HasRegisterStory.story) way.now (done_of did.old))
+        (host_after (stories_of S.HasStory.story S.HasRegisterStory.story) way.now (done_of did.new)) }
+    ensures opened { IsTrueOf (stories_of S.HasStory.story S.HasRegisterStory.story) way.now (done_of did.new) → result ≡ pos 0
+        → IsOpened (host_after (stories_of S.HasStory.story S.HasRegisterStory.story) way.now (done_of did.new)) card.new }
+    ensures refused { IsTrueOf (stories_of S.HasStory.story S.HasRegisterStory.story) way.now (done_of did.new)
+        → InProfile (host_after (stories_of S.HasStory.story S.HasRegisterStory.story) way.now (done_of did.old)).card.made
+        → (result ≡ pos 0 → ⊥) → is_unready result ≡ false
+        → (host_after (stories_of S.HasStory.story S.HasRegisterStory.story) way.now (done_of did.old)).faults + 3
+        ≤ (host_after (stories_of S.HasStory.story S.HasRegisterStory.story) way.now (done_of did.new)).faults }
+    ensures again { IsTrueOf (stories_of S.HasStory.story S.HasRegisterStory.story) way.now (done_of did.new)
+        → InProfile (host_after (stories_of S.HasStory.story S.HasRegisterStory.story) way.now (done_of did.old)).card.made
+        → (way.now.switches_power ≡ 0 → ⊥) → result ≡ minus 20
+        → (host_after (stories_of S.HasStory.story S.HasRegisterStory.story) way.now (done_of did.old)).faults + 6
+        ≤ (host_after (stories_of S.HasStory.story S.HasRegisterStory.story) way.now (done_of did.new)).faults }
+    ensures fit_again { IsFit (stories_of S.HasStory.story S.HasRegisterStory.story) way.now (done_of did.new) card.new }
+    ensures goes_on { IsTrueOf (stories_of S.HasStory.story S.HasRegisterStory.story) way.now (done_of did.new) → GoesOn (Opened result)
+        (host_after (stories_of S.HasStory.story S.HasRegisterStory.story) way.now (done_of did.old)) card.old
+        (host_after (stories_of S.HasStory.story S.HasRegisterStory.story) way.now (done_of did.new)) card.new }
 {
-    given_by(way).switch_on();
+    switch_on(way);
     let first = open_once::<S>(way, card, healed, did);
     if first != NO_CARD || way.switches_power == 0 {
         return first;
     }
-    given_by(way).switch_off();
-    given_by(way).switch_on();
+    switch_off::<S>(way, did);
+    switch_on(way);
     open_once::<S>(way, card, healed, did)
 }

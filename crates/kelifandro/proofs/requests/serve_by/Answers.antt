@@ -1,14 +1,13 @@
 use Rattle.std.proofs.Common.{◌≡◌}
 use Rattle.std.proofs.lemmas.Bool.{false≢true}
-use Rattle.std.specs.Prelude.{IfOk}
-use Rattle.mmc_direct.specs.Noted.{IsCounted, IsNotedOf, IsServed, WhereStood, bus_going_on, lines_in}
+use Rattle.mmc_direct.specs.Noted.{IsCounted}
 use Rattle.mmc_direct.specs.Refusal.{refusal_of}
+use Rattle.mmc_direct.specs.Served.{IfServed, refusal_in}
+use Rattle.mmc_switch.specs.Stands.{info_of}
+use Rattle.kelifandro.proofs.CallLemmas.{always_none, as_noted, is_noted, noted_again, served_noted, unchanged_by, untold_by, where_left}
+use Rattle.kelifandro.proofs.DoneLemmas.{fit_ready}
+use Rattle.kelifandro.specs.Done.{done_of, host_after, stories_of}
 use Rattle.mmc_direct.specs.Requests.{Serves}
-use Rattle.mmc_direct.specs.Served.{IfRefused, IfServed, refusal_in}
-use Rattle.mmc_host.specs.Hosts.{bus_over}
-use Rattle.mmc_story.specs.Story.{host_with}
-use Rattle.mmc_switch.specs.Stands.{StandsIn, info_of}
-use Rattle.kelifandro.proofs.CallLemmas.{as_noted, holds_as_noted, noted_again, unchanged_by}
 use Rattle.kelifandro.proofs.requests.serve_by.Goals as goal
 
 pub returns-in_err-host-clause-functions : goal.returns-in_err-host-clause-functions
@@ -38,35 +37,30 @@ returns-clause-counted g c =
 
 pub returns-clause-served : goal.returns-clause-served
 returns-clause-served g c =
-    holds_as_noted g.S.HasStory.story c.args.card.now c.in-Some.stands c.args.did.now.past c.in_ok-host.host.diary.past
-    c.in_ok-host.host.told.state c.in_ok-host.host.limits c.limits-limits.result c.in-Some.ensures.stands
-    c.in_ok-host.ensures.past c.in_ok-host.ensures.state c.limits-limits.ensures
-    (λ stands host. IfOk c.serve_over-answer.result.1 (λ bus.
-    IsServed (Serves (g.R.Request.change (info_of stands) c.args.request.now)
-    (λ sets. g.R.Request.has sets c.serve_over-answer.new.request)) stands host c.serve_over-answer.result.0
-    c.serve_over-answer.new.card
-    (bus_over (host_with (g.S.HasStory.story.outcome bus.host.diary.past) bus.host.told.state bus.host.limits) bus.wire
-    bus.is_misused)))
-    c.serve_over-answer.ensures.served
+    let over = c.serve_over-answer in
+    served_noted c.args.card.now c.in-Some.stands c.in-Some.ensures.stands
+    (λ how. Serves (g.R.Request.change (info_of how) c.args.request.now) (λ sets. g.R.Request.has sets over.new.request))
+    (host_after (stories_of g.S.HasStory.story g.S.HasRegisterStory.story) c.args.way.now (done_of c.args.did.now)) _
+    over.result.0 over.new.card _ over.result.1 c.in_ok-host.ensures.comes over.ensures.kept over.ensures.served
 
-pub returns-clause-notes : goal.returns-clause-notes
-returns-clause-notes g c =
-    holds_as_noted g.S.HasStory.story c.args.card.now c.in-Some.stands c.args.did.now.past c.in_ok-host.host.diary.past
-    c.in_ok-host.host.told.state c.in_ok-host.host.limits c.limits-limits.result c.in-Some.ensures.stands
-    c.in_ok-host.ensures.past c.in_ok-host.ensures.state c.limits-limits.ensures
-    (λ stands host. IfOk c.serve_over-answer.result.1 (λ bus.
-    WhereStood stands host
-    (bus_over (host_with (g.S.HasStory.story.outcome bus.host.diary.past) bus.host.told.state bus.host.limits) bus.wire
-    bus.is_misused)
-    (IsNotedOf c.serve_over-answer.new.card
-    (host_with (g.S.HasStory.story.outcome bus.host.diary.past) bus.host.told.state bus.host.limits))))
-    c.serve_over-answer.ensures.noted
+pub returns-clause-untold : goal.returns-clause-untold
+returns-clause-untold g c =
+    let over = c.serve_over-answer in
+    untold_by _ _ c.in_ok-host.host _ over.result.0 over.result.1 over.ensures.left over.ensures.untouched c.in_ok-host.ensures.comes
 
-pub returns-clause-noted_again : goal.returns-clause-noted_again
-returns-clause-noted_again g c =
-    holds_as_noted g.S.HasStory.story c.args.card.now c.in-Some.stands c.args.did.now.past c.in_ok-host.host.diary.past
-    c.in_ok-host.host.told.state c.in_ok-host.host.limits c.limits-limits.result c.in-Some.ensures.stands
-    c.in_ok-host.ensures.past c.in_ok-host.ensures.state c.limits-limits.ensures
-    (λ stands host. IfRefused c.serve_over-answer.result.0
-    (StandsIn stands (bus_going_on host (lines_in stands)) → IsNotedOf c.serve_over-answer.new.card host))
-    c.serve_over-answer.ensures.noted_again
+pub returns-clause-was_true : goal.returns-clause-was_true
+returns-clause-was_true g c =
+    let over = c.serve_over-answer in
+    where_left over.result.1 (λ bus was_kept kept. (c.in_ok-host.ensures.comes (was_kept kept)).0) over.ensures.kept
+
+pub go_back-requires-clause-ready : goal.go_back-requires-clause-ready
+go_back-requires-clause-ready g c =
+    c.requires.fit.ready (is_noted c.args.way.now c.args.card.now c.in-Some.ensures.open)
+
+pub returns-in_err-host-clause-fit_again : goal.returns-in_err-host-clause-fit_again
+returns-in_err-host-clause-fit_again g c =
+    always_none c.from_residual.result (fit_ready (stories_of g.S.HasStory.story g.S.HasRegisterStory.story) c.args.way.now
+    (done_of c.go_back.new.did) c.args.card.now c.requires.fit.wired c.in_err-host.ensures.ready_again)
+
+pub returns-in_err-host-clause-leaves : goal.returns-in_err-host-clause-leaves
+returns-in_err-host-clause-leaves g c = g.met.R.Request.unmoved c.args.request.now
