@@ -1,5 +1,5 @@
 -- What is under way between two commands is lost: one block of data at most, which tells nothing of sectors.
-use Rattle.std.proofs.Common.{◌≡◌, ◌∙◌, ◌≤◌, ◌+◌, List, None, Option, [], ap, arith, false, inl, inr, length, refl, subst, sym, true, ℕ}
+use Rattle.std.proofs.Common.{◌≡◌, ◌∙◌, List, None, Option, [], ap, arith, false, inl, inr, length, refl, subst, sym, ℕ}
 use Rattle.std.specs.Prelude.{◌∷◌, ◌⊎◌}
 use Rattle.mmc_card.specs.BusView.{BusView}
 use Rattle.mmc_card.specs.Card.{holds}
@@ -13,10 +13,10 @@ use Rattle.mmc_card.specs.declared.exchange.DataOut.TheVariants as Went
 use Rattle.mmc_card.specs.declared.part.Part.{Part}
 use Rattle.mmc_bus.specs.Exchanges.{Kept}
 use Rattle.mmc_host.specs.declared.data.Data.{Data}
-use Rattle.mmc_sdhci.specs.Accesses.{Drops, IsAtRest}
+use Rattle.mmc_sdhci.specs.Accesses.{IsAtRest}
 use Rattle.mmc_sdhci.specs.CommandLooks.{Dropped}
-use Rattle.mmc_sdhci.specs.Commands.{LosesAll, ResetsData, ResetsLine}
-use Rattle.mmc_sdhci.specs.Controller.{ControllerView, Running, Settled, moved, seen}
+use Rattle.mmc_sdhci.specs.Commands.{LosesAll}
+use Rattle.mmc_sdhci.specs.Controller.{ControllerView, Running, Settled, seen}
 use Rattle.mmc_sdhci.specs.DataLooks.{DataDropped, cleared, is_empty}
 use Rattle.mmc_sdhci.specs.Driver.{IsLost}
 use Rattle.mmc_sdhci.specs.Lending.{unlent}

@@ -1,5 +1,5 @@
 -- The driver as a host, and what it knows of its controller.
-use Rattle.std.specs.Prelude.{[], ◌%◌, ◌&&◌, ◌+◌, ◌==◌, ◌≡◌, ◌≤◌, Bool, None, false, if◌then◌else◌, is_none, not, true, ℕ}
+use Rattle.std.specs.Prelude.{[], ◌%◌, ◌==◌, ◌≡◌, ◌≤◌, Bool, None, false, if◌then◌else◌, true, ℕ}
 use Rattle.mmc_frame.specs.Field.{field}
 use Rattle.mmc_card.specs.Card.{IsCard, holds, powered_on}
 use Rattle.mmc_card.specs.Laws.{Carried, StillStands}
@@ -14,7 +14,7 @@ use Rattle.mmc_host.specs.Hosts.{HostView, Where}
 use Rattle.mmc_host.specs.declared.data.Data.{Data}
 use Rattle.mmc_host.specs.declared.told.HostState.{HostState}
 use Rattle.mmc_host.specs.declared.told.Ios.{Ios}
-use Rattle.mmc_sdhci.specs.Controller.{ControllerView, IsAtMost, Settled, base_clock, clock_runs, has_data, is_set, is_settled, is_still, lines_in}
+use Rattle.mmc_sdhci.specs.Controller.{ControllerView, IsAtMost, Settled, base_clock, clock_runs, is_set, is_settled, is_still, lines_in}
 use Rattle.mmc_sdhci.specs.Accesses.{is_at_rest, restarted, starting_anew}
 use Rattle.mmc_sdhci.specs.Lent.{nothing_lent}
 use Rattle.mmc_sdhci.specs.Moving.{WhereKept}
