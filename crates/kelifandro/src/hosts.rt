@@ -119,11 +119,11 @@ pub fn go_back<S: HasStory + HasRegisterStory>(
     }
 }
 
-/// Ends the use of a host for now, so that the next call can go on: of a controller nothing is under way, and nothing is lent. Functions are
-/// told nothing: what they were told to do has ended.
+/// Ends the use of a host for now, so that the next call can go on: of a controller nothing is under way, and nothing is lent. Functions
+/// are told nothing: what they were told to do has ended.
 ///
-/// Contracts of a bus don't say that its host is still of the kind that it was: so what one of the other kind did counts as misuse, of which
-/// no story is true. So does data that is still under way though nothing has failed, which they don't exclude either.
+/// Contracts of a bus don't say that its host is still of the kind that it was: so what one of the other kind did counts as misuse, of
+/// which no story is true. So does data that is still under way though nothing has failed, which they don't exclude either.
 pub fn end<S: HasStory + HasRegisterStory>(
     host: CHost<S>,
     is_misused: bool,

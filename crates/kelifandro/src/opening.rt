@@ -73,7 +73,8 @@ fn open_once<S: HasStory + HasRegisterStory>(
     ensures no_host { is_unready result ≡ true → card.new ≡ record card.old { state = 0 } }
     ensures functions { way.now.by ≡ 0 → is_unready result ≡ false }
     ensures no_card { result ≡ minus 20 → card.new ≡ record card.old { state = 0 } }
-    ensures stays { IsTrueOf (stories_of S.HasStory.story S.HasRegisterStory.story) way.now (done_of did.new) → HasStayed (host_after (stories_of S.HasStory.story S.HasRegisterStory.story) way.now (done_of did.old))
+    ensures stays { IsTrueOf (stories_of S.HasStory.story S.HasRegisterStory.story) way.now (done_of did.new)
+        → HasStayed (host_after (stories_of S.HasStory.story S.HasRegisterStory.story) way.now (done_of did.old))
         (host_after (stories_of S.HasStory.story S.HasRegisterStory.story) way.now (done_of did.new)) }
     ensures opened { IsTrueOf (stories_of S.HasStory.story S.HasRegisterStory.story) way.now (done_of did.new) → result ≡ pos 0
         → IsOpened (host_after (stories_of S.HasStory.story S.HasRegisterStory.story) way.now (done_of did.new)) card.new }
@@ -99,8 +100,8 @@ fn open_once<S: HasStory + HasRegisterStory>(
     }
 }
 
-/// Opens a card. Where its power can be switched it is on, and a card that doesn't answer has been without it once: what the host did before
-/// that and after it is one diary, in which a story has the loss of power as a fault of the next exchange.
+/// Opens a card. Where its power can be switched it is on, and a card that doesn't answer has been without it once: what the host did
+/// before that and after it is one diary, in which a story has the loss of power as a fault of the next exchange.
 pub fn open_by<S: HasStory + HasRegisterStory>(
     way: &WayRecord,
     card: &mut CardRecord,
@@ -113,7 +114,8 @@ pub fn open_by<S: HasStory + HasRegisterStory>(
     ensures healed { healed.new ≡ none_met }
     ensures no_host { is_unready result ≡ true → card.new ≡ record card.old { state = 0 } }
     ensures functions { way.now.by ≡ 0 → is_unready result ≡ false }
-    ensures stays { IsTrueOf (stories_of S.HasStory.story S.HasRegisterStory.story) way.now (done_of did.new) → HasStayed (host_after (stories_of S.HasStory.story S.HasRegisterStory.story) way.now (done_of did.old))
+    ensures stays { IsTrueOf (stories_of S.HasStory.story S.HasRegisterStory.story) way.now (done_of did.new)
+        → HasStayed (host_after (stories_of S.HasStory.story S.HasRegisterStory.story) way.now (done_of did.old))
         (host_after (stories_of S.HasStory.story S.HasRegisterStory.story) way.now (done_of did.new)) }
     ensures opened { IsTrueOf (stories_of S.HasStory.story S.HasRegisterStory.story) way.now (done_of did.new) → result ≡ pos 0
         → IsOpened (host_after (stories_of S.HasStory.story S.HasRegisterStory.story) way.now (done_of did.new)) card.new }

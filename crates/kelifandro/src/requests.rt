@@ -45,6 +45,7 @@ pub struct Called<H: Host> {
     pub left: Left<H>,
 }
 
+// Whether attempts have failed.
 fn has_failed(answer: Result<(), NotDone>) -> bool
     ensures { answer ≡ Ok tt → result ≡ false }
 {
@@ -58,7 +59,8 @@ fn let_go<S: HasStory + HasRegisterStory>(
     did: &mut Did,
 )
     ensures refused { IfErr left (λ host. (way : WayRecord)
-        → Where (host_after (stories_of S.HasStory.story S.HasRegisterStory.story) way (done_of did.new)) (IsLeft (Unit {0}) (⟦<CHost<S> as Host>⟧.view host)
+        → Where (host_after (stories_of S.HasStory.story S.HasRegisterStory.story) way (done_of did.new))
+        (IsLeft (Unit {0}) (⟦<CHost<S> as Host>⟧.view host)
         (host_after (stories_of S.HasStory.story S.HasRegisterStory.story) way (done_of did.new)))) }
     ensures left { IfOk left (λ bus. (way : WayRecord)
         → Where (host_after (stories_of S.HasStory.story S.HasRegisterStory.story) way (done_of did.new)) ((bus.is_misused ≡ false)
@@ -78,7 +80,8 @@ fn told<S: HasStory + HasRegisterStory>(called: Result<Called<CHost<S>>, i32>, d
     ensures why { IfErr called (λ number. result ≡ number) }
     ensures none { IfErr called (λ number. did.new ≡ did.old) }
     ensures refused { IfOk called (λ came. IfErr came.left (λ host. (way : WayRecord)
-        → Where (host_after (stories_of S.HasStory.story S.HasRegisterStory.story) way (done_of did.new)) (IsLeft (Unit {0}) (⟦<CHost<S> as Host>⟧.view host)
+        → Where (host_after (stories_of S.HasStory.story S.HasRegisterStory.story) way (done_of did.new))
+        (IsLeft (Unit {0}) (⟦<CHost<S> as Host>⟧.view host)
         (host_after (stories_of S.HasStory.story S.HasRegisterStory.story) way (done_of did.new))))) }
     ensures left { IfOk called (λ came. IfOk came.left (λ bus. (way : WayRecord)
         → Where (host_after (stories_of S.HasStory.story S.HasRegisterStory.story) way (done_of did.new)) ((bus.is_misused ≡ false)
@@ -115,7 +118,8 @@ pub fn serve_by<S: HasStory + HasRegisterStory, R: Request>(
     ensures stays { IfErr result (λ number. OnlyTold
         (host_after (stories_of S.HasStory.story S.HasRegisterStory.story) way.now (done_of did.old))
         (host_after (stories_of S.HasStory.story S.HasRegisterStory.story) way.now (done_of did.new))) }
-    ensures fit_again { IfErr result (λ number. IsFit (stories_of S.HasStory.story S.HasRegisterStory.story) way.now (done_of did.new) card.new) }
+    ensures fit_again { IfErr result (λ number.
+        IsFit (stories_of S.HasStory.story S.HasRegisterStory.story) way.now (done_of did.new) card.new) }
     ensures did { IfOk result (λ came. did.new ≡ did.old) }
     ensures judged { IfNoted card.old (λ stands. IfOk result (λ did.
         refusal_in did.answer ≡ refusal_of (info_of stands) (R.asked request.old))) }
