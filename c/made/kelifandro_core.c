@@ -1,4 +1,4 @@
-/* Of the crates as they are at commit 476e9ebb0e56476c0422c71db98562608eb3fc65,
+/* Of the crates as they are at commit bcdd82361a432147476bc493dd5280386bd83409,
    by the toolchain rattle-kit-13f logic dac8208d650f15bf. `c/generate --made` makes it anew. */
 /* Made by c/generate of the proved library: not for editing. C99, freestanding; it needs memcpy and memset, and the functions
    kelifandro_put and kelifandro_get of kelifandro.c. Each function's name in Rattle stands above it. What is
@@ -403,16 +403,6 @@ static const KELIFANDRO_ROOM uint8_t bytes_opening_open_once[20] = {
     236, 255, 255, 255, 231, 255, 255, 255, 235, 255, 255, 255, 235, 255, 255, 255, 230, 255, 255, 255,
 };
 
-static void given_given_by(uint8_t *a0, uint8_t *a1);
-static void CRegisters_switch_off(uint8_t *a0);
-static void Stream_set_power(uint8_t *a0, bool a1);
-static void io_write_all(uint32_t a0, uint8_t *a1, uint64_t a2);
-static void CRegistersRegisters_write8(uint8_t *a0, uint8_t a1, uint8_t a2);
-static void CRegisters_write_in_word(uint8_t *a0, uint8_t a1, uint8_t a2);
-static uint32_t Stream_read_register(uint8_t *a0, uint8_t a1, uint8_t a2);
-static void Stream_ask(uint8_t *a0, uint8_t *a1, uint64_t a2, uint8_t *a3, uint64_t a4);
-static uint64_t io_read_full(uint32_t a0, uint8_t *a1, uint64_t a2);
-static void Stream_write_register(uint8_t *a0, uint8_t a1, uint8_t a2, uint32_t a3);
 static void calls_open_card(uint8_t *a0, uint8_t *a1, uint8_t *a2);
 static void noting_stands_by(uint8_t *a0, uint8_t *a1);
 static void cid_read_cid(uint8_t *a0, uint8_t *a1);
@@ -420,18 +410,28 @@ static void bits_read_checked(uint8_t *a0, uint8_t *a1);
 static bool register_response_check_fits(uint8_t *a0);
 static void csd_read_csd(uint8_t *a0, uint8_t a1, uint8_t *a2);
 static uint64_t Sizes_of(uint8_t *a0, uint8_t a1);
+static void hosts_switch_off(uint8_t *a0);
+static void given_given_by(uint8_t *a0, uint8_t *a1);
+static void CFunctions_set_power(uint8_t *a0, bool a1);
+static void io_write_all(uint32_t a0, uint8_t *a1, uint64_t a2);
+static void StoryRegistersRegisters_write8(uint8_t *a0, uint8_t a1, uint8_t a2);
+static void CRegisters_write_in_word(uint8_t *a0, uint8_t a1, uint8_t a2);
+static uint32_t Stream_read_register(uint8_t *a0, uint8_t a1, uint8_t a2);
+static void Stream_ask(uint8_t *a0, uint8_t *a1, uint64_t a2, uint8_t *a3, uint64_t a4);
+static uint64_t io_read_full(uint32_t a0, uint8_t *a1, uint64_t a2);
+static void Stream_write_register(uint8_t *a0, uint8_t a1, uint8_t a2, uint32_t a3);
 static void AskedRecord_asked(uint8_t *a0, uint8_t *a1);
 static uint32_t requests_serve_told(uint8_t *a0, uint8_t *a1, uint8_t *a2, uint8_t *a3, uint8_t *a4, uint64_t a5);
 static uint32_t CRegistersRegisters_read32(uint8_t *a0, uint8_t a1);
-static uint8_t CRegistersRegisters_read8(uint8_t *a0, uint8_t a1);
+static uint8_t StoryRegistersRegisters_read8(uint8_t *a0, uint8_t a1);
 static uint8_t CRegisters_read_in_word(uint8_t *a0, uint8_t a1);
 static struct of_i8_i8 rules_sectors_refusal(uint64_t a0, uint8_t a1, uint8_t *a2, uint8_t a3, uint64_t a4, uint64_t a5);
 static void noted_note(uint8_t *a0, uint8_t *a1);
 static void noted_noted(uint8_t *a0, uint8_t *a1, uint8_t a2, uint8_t a3);
 static void u128_to_be_bytes(uint8_t *a0, u128 a1);
 static void noted_note_broken(uint8_t *a0, uint8_t *a1);
-static void StoryHostHost_set_ios(uint8_t *a0, uint8_t *a1);
-static void Stream_set_ios(uint8_t *a0, uint8_t *a1);
+static void WayHost_set_ios(uint8_t *a0, uint8_t *a1);
+static void CFunctionsHost_set_ios(uint8_t *a0, uint8_t *a1);
 static void clock_set_clock(uint8_t *a0, uint32_t a1, uint8_t a2, uint32_t a3);
 static void Stream_pause(uint8_t *a0, uint32_t a1);
 static void attempts_attempt(uint8_t *a0, uint8_t *a1, uint8_t *a2, uint8_t *a3, uint8_t *a4);
@@ -489,184 +489,11 @@ static uint8_t SdhciHost_write_block(uint8_t *a0, uint8_t *a1);
 static void request_erase(uint8_t *a0, uint8_t *a1, uint8_t *a2, uint64_t a3, uint64_t a4, uint8_t a5);
 static void counting_count_done(uint8_t *a0);
 static void counting_count_failed(uint8_t *a0, uint8_t a1);
-static void R_end(uint8_t *a0, bool a1);
+static void hosts_end(uint8_t *a0, bool a1);
 static void command_lose_all(uint8_t *a0);
 static struct of_i8_i32 longs_may_begin(uint8_t *a0, uint8_t *a1, uint8_t *a2);
-static void CRegisters_switch_on(uint8_t *a0);
+static void hosts_switch_on(uint8_t *a0);
 static uint32_t opening_open_once(uint8_t *a0, uint8_t *a1, uint8_t *a2);
-
-/* c_host::given::given_by */
-static void given_given_by(uint8_t *a0, uint8_t *a1)
-{
-    uint32_t sink;
-    uint64_t r0_44_0_0_insert_insert24_sink;
-    bool sink_in;
-    uint32_t r31 = load32_aligned(a1);
-    if (a1[10] == 0u) {
-        uint8_t r42 = a1[11];
-        uint64_t r0_44_5_0_insert_insert = (((a1[12] == 0u) ? 0u : UINT64_C(0x10000000000)) | (uint64_t)r31) | ((r42 == 8u) ? UINT64_C(0x200000000) : ((r42 == 4u) ? UINT64_C(0x100000000) : 0u));
-        sink = 0u;
-        r0_44_0_0_insert_insert24_sink = (r0_44_5_0_insert_insert | ((a1[16] == 0u) ? 0u : UINT64_C(0x1000000000000))) | ((a1[17] == 0u) ? UINT64_C(0x100000000000000) : 0u);
-        sink_in = a1[18] == 0u;
-        goto common_ret;
-    }
-    uint8_t r73 = a1[13];
-    uint32_t r77 = load32_aligned(a1 + 4);
-    uint8_t r93 = a1[14];
-    uint8_t r98 = a1[15];
-    uint16_t r103 = load16_aligned(a1 + 8);
-    uint8_t r6_43 = a1[17];
-    uint8_t r11_47 = a1[18];
-    store32(a0 + 16, r77);
-    a0[20] = (uint8_t)(r93 != 0u);
-    a0[21] = (uint8_t)(r98 != 0u);
-    store16(a0 + 22, r103);
-    a0[24] = (uint8_t)(r6_43 == 0u);
-    a0[25] = (uint8_t)(r11_47 == 0u);
-    store16(a0 + 26, 0u);
-    sink = 1u;
-    r0_44_0_0_insert_insert24_sink = ((r73 == 0u) ? 0u : UINT64_C(0x100000000)) | (uint64_t)r31;
-    sink_in = r77 != 0u;
-common_ret: {
-    store32(a0, sink);
-    store64(a0 + 4, r0_44_0_0_insert_insert24_sink);
-    store32(a0 + 12, (uint32_t)sink_in);
-    return;
-}
-}
-
-/* c_host::way::Given+CRegisters::switch_off */
-static void CRegisters_switch_off(uint8_t *a0)
-{
-    if (*a0 != 0u) {
-        CRegistersRegisters_write8(a0 + 4, 41u, 0u);
-        goto join_4;
-    }
-    if (!((a0[10] & 1u) != 0)) {
-        goto join_4;
-    }
-    Stream_set_power(a0 + 4, false);
-join_4: {
-    return;
-}
-}
-
-/* c_host::stream::Stream::set_power */
-static void Stream_set_power(uint8_t *a0, bool a1)
-{
-    KELIFANDRO_ROOM uint8_t r1[2];
-    *r1 = 7u;
-    r1[1] = (uint8_t)a1;
-    io_write_all(load32_aligned(a0), r1, 2u);
-    return;
-}
-
-/* io::write_all */
-static void io_write_all(uint32_t a0, uint8_t *a1, uint64_t a2)
-{
-    uint64_t r3_012;
-    r3_012 = 0u;
-join_5: {
-    uint64_t r27 = a2 - r3_012;
-    uint64_t r3 = (uint64_t)kelifandro_put(signed32(a0), at(a1, r3_012), r27);
-    uint64_t a0_a1 = umin64(r3, r27);
-    uint64_t r51 = a0_a1 + r3_012;
-    if ((((r3 ^ UINT64_C(0x8000000000000000)) > UINT64_C(0x8000000000000000)) && (a0_a1 != 0u)) && (r51 < a2)) {
-        r3_012 = r51;
-        goto join_5;
-    }
-    return;
-}
-}
-
-/* c_host::registers::CRegistersRegisters::write8 */
-static void CRegistersRegisters_write8(uint8_t *a0, uint8_t a1, uint8_t a2)
-{
-    if ((a0[16] & 1u) != 0) {
-        CRegisters_write_in_word(a0, a1, a2);
-        goto join_3;
-    }
-    Stream_write_register(a0, 1u, a1, (uint32_t)a2);
-join_3: {
-    return;
-}
-}
-
-/* c_host::registers::CRegisters::write_in_word */
-static void CRegisters_write_in_word(uint8_t *a0, uint8_t a1, uint8_t a2)
-{
-    KELIFANDRO_ROOM uint8_t r1[4];
-    uint8_t r4 = (uint8_t)(a1 & 44u);
-    uint32_t r8 = Stream_read_register(a0, 4u, r4);
-    store32_aligned(r1, r8);
-    *at(r1, (uint64_t)(uint8_t)(a1 & 3u)) = a2;
-    uint32_t v0 = load32_aligned(r1);
-    Stream_write_register(a0, 4u, r4, v0);
-    return;
-}
-
-/* c_host::stream::Stream::read_register */
-static uint32_t Stream_read_register(uint8_t *a0, uint8_t a1, uint8_t a2)
-{
-    KELIFANDRO_ROOM uint8_t r1[4];
-    KELIFANDRO_ROOM uint8_t r3[3];
-    store32_aligned(r1, 0u);
-    *r3 = 8u;
-    r3[1] = a1;
-    r3[2] = a2;
-    Stream_ask(a0, r3, 3u, r1, 4u);
-    return load32_aligned(r1);
-}
-
-/* c_host::stream::Stream::ask */
-static void Stream_ask(uint8_t *a0, uint8_t *a1, uint64_t a2, uint8_t *a3, uint64_t a4)
-{
-    io_write_all(load32_aligned(a0), a1, a2);
-    io_read_full(load32_aligned(a0), a3, a4);
-    return;
-}
-
-/* io::read_full */
-static uint64_t io_read_full(uint32_t a0, uint8_t *a1, uint64_t a2)
-{
-    uint64_t r3_014;
-    uint64_t r3_0_lcssa;
-    if (a2 == 0u) {
-        r3_0_lcssa = 0u;
-        goto after_1;
-    }
-    r3_014 = 0u;
-join_5: {
-    uint64_t r24 = a2 - r3_014;
-    uint64_t r3 = (uint64_t)kelifandro_get(signed32(a0), at(a1, r3_014), r24);
-    uint64_t a0_a1 = umin64(r3, r24);
-    if (((r3 ^ UINT64_C(0x8000000000000000)) < UINT64_C(0x8000000000000001)) || (a0_a1 == 0u)) {
-        r3_0_lcssa = r3_014;
-        goto after_1;
-    }
-    uint64_t r47 = a0_a1 + r3_014;
-    if (r47 < a2) {
-        r3_014 = r47;
-        goto join_5;
-    }
-    r3_0_lcssa = r47;
-}
-after_1: {
-    return r3_0_lcssa;
-}
-}
-
-/* c_host::stream::Stream::write_register */
-static void Stream_write_register(uint8_t *a0, uint8_t a1, uint8_t a2, uint32_t a3)
-{
-    KELIFANDRO_ROOM uint8_t r15[7];
-    *r15 = 9u;
-    r15[1] = a1;
-    r15[2] = a2;
-    store32(r15 + 3, a3);
-    io_write_all(load32_aligned(a0), r15, 7u);
-    return;
-}
 
 /* kelifandro::calls::open_card */
 static void calls_open_card(uint8_t *a0, uint8_t *a1, uint8_t *a2)
@@ -1119,6 +946,183 @@ join_8: {
 }
 }
 
+/* kelifandro::hosts::switch_off::<#fb070baa9c134c3e> */
+static void hosts_switch_off(uint8_t *a0)
+{
+    KELIFANDRO_ROOM uint8_t r5[36];
+    given_given_by(r5, a0);
+    if (*r5 == 0u) {
+        CFunctions_set_power(r5 + 4, false);
+        goto join_4;
+    }
+    StoryRegistersRegisters_write8(r5 + 4, 41u, 0u);
+join_4: {
+    return;
+}
+}
+
+/* c_host::given::given_by */
+static void given_given_by(uint8_t *a0, uint8_t *a1)
+{
+    uint32_t sink;
+    uint64_t r0_44_0_0_insert_insert24_sink;
+    bool sink_in;
+    uint32_t r31 = load32_aligned(a1);
+    if (a1[10] == 0u) {
+        uint8_t r42 = a1[11];
+        uint64_t r0_44_5_0_insert_insert = (((a1[12] == 0u) ? 0u : UINT64_C(0x10000000000)) | (uint64_t)r31) | ((r42 == 8u) ? UINT64_C(0x200000000) : ((r42 == 4u) ? UINT64_C(0x100000000) : 0u));
+        sink = 0u;
+        r0_44_0_0_insert_insert24_sink = (r0_44_5_0_insert_insert | ((a1[16] == 0u) ? 0u : UINT64_C(0x1000000000000))) | ((a1[17] == 0u) ? UINT64_C(0x100000000000000) : 0u);
+        sink_in = a1[18] == 0u;
+        goto common_ret;
+    }
+    uint8_t r73 = a1[13];
+    uint32_t r77 = load32_aligned(a1 + 4);
+    uint8_t r93 = a1[14];
+    uint8_t r98 = a1[15];
+    uint16_t r103 = load16_aligned(a1 + 8);
+    uint8_t r6_43 = a1[17];
+    uint8_t r11_47 = a1[18];
+    store32(a0 + 16, r77);
+    a0[20] = (uint8_t)(r93 != 0u);
+    a0[21] = (uint8_t)(r98 != 0u);
+    store16(a0 + 22, r103);
+    a0[24] = (uint8_t)(r6_43 == 0u);
+    a0[25] = (uint8_t)(r11_47 == 0u);
+    store16(a0 + 26, 0u);
+    sink = 1u;
+    r0_44_0_0_insert_insert24_sink = ((r73 == 0u) ? 0u : UINT64_C(0x100000000)) | (uint64_t)r31;
+    sink_in = r77 != 0u;
+common_ret: {
+    store32(a0, sink);
+    store64(a0 + 4, r0_44_0_0_insert_insert24_sink);
+    store32(a0 + 12, (uint32_t)sink_in);
+    return;
+}
+}
+
+/* c_host::functions::CFunctions::set_power */
+static void CFunctions_set_power(uint8_t *a0, bool a1)
+{
+    KELIFANDRO_ROOM uint8_t r1[2];
+    if (!((a0[6] & 1u) != 0)) {
+        goto join_3;
+    }
+    *r1 = 7u;
+    r1[1] = (uint8_t)a1;
+    io_write_all(load32_aligned(a0), r1, 2u);
+join_3: {
+    return;
+}
+}
+
+/* io::write_all */
+static void io_write_all(uint32_t a0, uint8_t *a1, uint64_t a2)
+{
+    uint64_t r3_012;
+    r3_012 = 0u;
+join_5: {
+    uint64_t r27 = a2 - r3_012;
+    uint64_t r3 = (uint64_t)kelifandro_put(signed32(a0), at(a1, r3_012), r27);
+    uint64_t a0_a1 = umin64(r3, r27);
+    uint64_t r51 = a0_a1 + r3_012;
+    if ((((r3 ^ UINT64_C(0x8000000000000000)) > UINT64_C(0x8000000000000000)) && (a0_a1 != 0u)) && (r51 < a2)) {
+        r3_012 = r51;
+        goto join_5;
+    }
+    return;
+}
+}
+
+/* sdhci_story::registers::StoryRegistersRegisters::write8::<#52343085cde207f1> */
+static void StoryRegistersRegisters_write8(uint8_t *a0, uint8_t a1, uint8_t a2)
+{
+    if ((a0[16] & 1u) != 0) {
+        CRegisters_write_in_word(a0, a1, a2);
+        goto c_host_registers_CRegistersRegisters_write8_exit;
+    }
+    Stream_write_register(a0, 1u, a1, (uint32_t)a2);
+c_host_registers_CRegistersRegisters_write8_exit: {
+    return;
+}
+}
+
+/* c_host::registers::CRegisters::write_in_word */
+static void CRegisters_write_in_word(uint8_t *a0, uint8_t a1, uint8_t a2)
+{
+    KELIFANDRO_ROOM uint8_t r1[4];
+    uint8_t r4 = (uint8_t)(a1 & 44u);
+    uint32_t r8 = Stream_read_register(a0, 4u, r4);
+    store32_aligned(r1, r8);
+    *at(r1, (uint64_t)(uint8_t)(a1 & 3u)) = a2;
+    uint32_t v0 = load32_aligned(r1);
+    Stream_write_register(a0, 4u, r4, v0);
+    return;
+}
+
+/* c_host::stream::Stream::read_register */
+static uint32_t Stream_read_register(uint8_t *a0, uint8_t a1, uint8_t a2)
+{
+    KELIFANDRO_ROOM uint8_t r1[4];
+    KELIFANDRO_ROOM uint8_t r3[3];
+    store32_aligned(r1, 0u);
+    *r3 = 8u;
+    r3[1] = a1;
+    r3[2] = a2;
+    Stream_ask(a0, r3, 3u, r1, 4u);
+    return load32_aligned(r1);
+}
+
+/* c_host::stream::Stream::ask */
+static void Stream_ask(uint8_t *a0, uint8_t *a1, uint64_t a2, uint8_t *a3, uint64_t a4)
+{
+    io_write_all(load32_aligned(a0), a1, a2);
+    io_read_full(load32_aligned(a0), a3, a4);
+    return;
+}
+
+/* io::read_full */
+static uint64_t io_read_full(uint32_t a0, uint8_t *a1, uint64_t a2)
+{
+    uint64_t r3_014;
+    uint64_t r3_0_lcssa;
+    if (a2 == 0u) {
+        r3_0_lcssa = 0u;
+        goto after_1;
+    }
+    r3_014 = 0u;
+join_5: {
+    uint64_t r24 = a2 - r3_014;
+    uint64_t r3 = (uint64_t)kelifandro_get(signed32(a0), at(a1, r3_014), r24);
+    uint64_t a0_a1 = umin64(r3, r24);
+    if (((r3 ^ UINT64_C(0x8000000000000000)) < UINT64_C(0x8000000000000001)) || (a0_a1 == 0u)) {
+        r3_0_lcssa = r3_014;
+        goto after_1;
+    }
+    uint64_t r47 = a0_a1 + r3_014;
+    if (r47 < a2) {
+        r3_014 = r47;
+        goto join_5;
+    }
+    r3_0_lcssa = r47;
+}
+after_1: {
+    return r3_0_lcssa;
+}
+}
+
+/* c_host::stream::Stream::write_register */
+static void Stream_write_register(uint8_t *a0, uint8_t a1, uint8_t a2, uint32_t a3)
+{
+    KELIFANDRO_ROOM uint8_t r15[7];
+    *r15 = 9u;
+    r15[1] = a1;
+    r15[2] = a2;
+    store32(r15 + 3, a3);
+    io_write_all(load32_aligned(a0), r15, 7u);
+    return;
+}
+
 /* kelifandro::asked::AskedRecord::asked */
 static void AskedRecord_asked(uint8_t *a0, uint8_t *a1)
 {
@@ -1140,80 +1144,84 @@ common_ret: {
 }
 }
 
-/* kelifandro::requests::serve_told::<#bdc0d8dae079f39d> */
+/* kelifandro::requests::serve_told::<#fb070baa9c134c3e> */
 static uint32_t requests_serve_told(uint8_t *a0, uint8_t *a1, uint8_t *a2, uint8_t *a3, uint8_t *a4, uint64_t a5)
 {
     KELIFANDRO_ROOM uint8_t room[400];
-    uint8_t *const r14 = room;
+    uint8_t *const r4_2 = room;
+    uint8_t *const r15_6 = room;
     uint8_t *const r1 = room;
-    uint8_t *const r22_2 = room;
-    uint8_t *const r10_20 = room;
-    uint8_t *const r0_18 = room;
+    uint8_t *const r22 = room;
+    uint8_t *const r8_20 = room;
+    uint8_t *const r0_17 = room;
     uint8_t *const r3 = room;
-    uint8_t *const r17 = room;
-    uint8_t *const r8 = room;
-    uint8_t *const r15_15_2_5 = room + 88;
-    uint8_t *const r22 = room + 96;
-    uint8_t *const r15_15_2_16 = room + 120;
-    uint8_t *const r15_15_2_22 = room + 144;
-    uint8_t *const r3_31 = room + 192;
-    uint8_t *const r12_28 = room + 192;
-    uint8_t *const r25_2 = room + 192;
-    uint8_t *const r33_19 = room + 192;
-    uint8_t *const r13 = room + 208;
-    uint8_t *const r33_17 = room + 208;
-    uint8_t *const r9 = room + 208;
+    uint8_t *const r15 = room;
+    uint8_t *const r7 = room;
+    uint8_t *const r20 = room + 88;
+    uint8_t *const r14_15_2_20 = room + 88;
+    uint8_t *const r14_15_2_9 = room + 112;
+    uint8_t *const r14_15_2_5 = room + 128;
+    uint8_t *const r14_15_2_18 = room + 136;
+    uint8_t *const r14_15_2_26 = room + 144;
+    uint8_t *const r3_32 = room + 192;
+    uint8_t *const r12_29 = room + 192;
+    uint8_t *const r25 = room + 192;
+    uint8_t *const r31_19 = room + 192;
+    uint8_t *const r11 = room + 208;
+    uint8_t *const r31_17 = room + 208;
+    uint8_t *const r14 = room + 208;
     uint8_t *const r6_7_6 = room + 384;
-    KELIFANDRO_ROOM uint8_t room_2[192];
-    uint8_t *const r16 = room_2;
-    uint8_t *const r8_10_3_5 = room_2;
-    uint8_t *const r15_16 = room_2 + 32;
+    KELIFANDRO_ROOM uint8_t room_2[184];
+    uint8_t *const r14_7 = room_2;
+    uint8_t *const r21_15 = room_2;
+    uint8_t *const r23_6_8_0 = room_2 + 24;
+    uint8_t *const r23_6_4 = room_2 + 40;
     KELIFANDRO_ROOM uint8_t room_3[144];
     uint8_t *const r6_0 = room_3;
-    uint8_t *const r33_4_3 = room_3;
+    uint8_t *const r31_4_3 = room_3;
     KELIFANDRO_ROOM uint8_t r4[40];
     KELIFANDRO_ROOM uint8_t r6_7_0[13];
     uint8_t r9_0_0;
     uint8_t r10_0_0;
     uint64_t r32;
     uint64_t r34;
-    uint8_t r25;
-    u128 r26;
+    uint8_t r23;
+    u128 r24;
     uint8_t r1_4_16;
     uint8_t r1_5_16;
-    uint8_t r0_18_3_0_5_0;
-    uint32_t r0_18_3_0_0_0;
-    uint8_t r0_18_3_0_4_0;
+    uint32_t r3_0_0;
+    uint8_t r3_2_0;
+    uint8_t r3_4_0;
     uint32_t r5_4_3_0_ph;
-    uint8_t r5_8;
-    uint8_t r3_0_0_pn_speculated;
-    uint8_t r3_3_0_pn_speculated;
-    uint8_t r8_22_0_ph;
-    uint8_t r8_23_0_ph;
-    uint32_t r8_2424_0_ph;
-    uint8_t r8_14_0_ph;
-    uint8_t r8_13_0_ph;
-    uint32_t r8_6_0_ph;
-    uint8_t r8_25_0_ph;
-    uint32_t r8_2625_0_ph;
-    uint8_t r5_0_0;
-    uint16_t r2_4_88_insert_insert;
+    uint8_t r0_0_0_pn;
+    uint8_t r0_2_0_pn;
+    uint16_t r15_6_8_0_ph;
+    uint8_t r15_6_7_0_ph;
+    uint8_t r15_6_6_0_ph;
+    uint8_t r15_6_9_3_0_ph;
+    uint8_t r15_6_9_4_0_ph;
+    uint8_t r15_6_9_14_0_ph;
+    uint8_t r15_6_9_15_0_ph;
+    uint32_t r15_6_9_17_0_ph;
+    uint8_t r15_6_9_18_0_ph;
+    uint32_t r15_6_9_20_0_ph;
+    uint32_t r15_3_2_0_ph;
     bool r7_0_in;
-    uint8_t r5_0_0_2;
+    uint8_t r5_0_0;
     uint8_t r6_6_036;
     uint8_t r6_5_035;
     uint8_t r6_4_034;
     uint64_t r9_033;
     uint8_t r6_7_4_032;
-    uint8_t r33_8_0;
     bool v16;
     bool v17;
-    uint8_t r33_0_0;
-    uint8_t r33_11_0;
-    uint8_t r33_14_0;
-    uint8_t r33_18_0;
+    uint8_t r31_0_0;
+    uint8_t r31_8_0;
+    uint8_t r31_11_0;
+    uint8_t r31_14_0;
+    uint8_t r31_18_0;
     uint8_t r11_pn_50;
-    uint32_t common_ret_op;
+    uint32_t r11_0;
     r9_0_0 = *a3;
     r10_0_0 = a3[1];
     r32 = load64_aligned(a3 + 8);
@@ -1224,107 +1232,87 @@ static uint32_t requests_serve_told(uint8_t *a0, uint8_t *a1, uint8_t *a2, uint8
     store64_aligned(r4 + 16, r34);
     store_pointer_aligned(r4 + 24, a4);
     store64_aligned(r4 + 32, a5);
-    calls_open_card(r8, a0, a1);
-    if (*r8 != 1u) {
+    calls_open_card(r7, a0, a1);
+    if (*r7 != 1u) {
         r5_4_3_0_ph = UINT32_C(0xffffffff);
-        goto kelifandro_requests_serve_by_4f0efdd63e909db2_exit_thread;
+        goto kelifandro_requests_serve_by_cf572257659e7b45_exit_thread;
     }
-    r25 = r8[16];
-    r26 = u128_of(0u, r25);
-    r1_4_16 = r8[163];
-    r1_5_16 = r8[164];
-    given_given_by(r9, a0);
-    uint8_t r5_5 = a0[11];
-    bool r7 = r5_5 == 1u;
-    r0_18_3_0_5_0 = r9[9];
-    r0_18_3_0_0_0 = load32_aligned(r9 + 4);
-    r0_18_3_0_4_0 = r9[8];
-    if (*r9 == 0u) {
-        memcpy(r8_10_3_5, r9 + 10, 6);
-        r5_8 = r5_5;
-        r3_0_0_pn_speculated = r0_18_3_0_4_0;
-        r3_3_0_pn_speculated = r0_18_3_0_5_0;
-        r8_22_0_ph = 0u; /* any */
-        r8_23_0_ph = 0u; /* any */
-        r8_2424_0_ph = 0u; /* any */
-        r8_14_0_ph = 0u; /* any */
-        r8_13_0_ph = 0u; /* any */
-        r8_6_0_ph = 0u;
-        r8_25_0_ph = 0u; /* any */
-        r8_2625_0_ph = 0u; /* any */
-        goto arm_1;
+    r23 = r7[16];
+    r24 = u128_of(0u, r23);
+    r1_4_16 = r7[163];
+    r1_5_16 = r7[164];
+    given_given_by(r14, a0);
+    r3_0_0 = load32_aligned(r14 + 4);
+    r3_2_0 = r14[8];
+    r3_4_0 = r14[9];
+    if (*r14 == 0u) {
+        memcpy(r23_6_4, r14 + 10, 6);
+        r0_0_0_pn = r3_2_0;
+        r0_2_0_pn = r3_4_0;
+        r15_6_8_0_ph = 0u; /* any */
+        r15_6_7_0_ph = r3_4_0;
+        r15_6_6_0_ph = r3_2_0;
+        r15_6_9_3_0_ph = 0u; /* any */
+        r15_6_9_4_0_ph = 0u; /* any */
+        r15_6_9_14_0_ph = 0u; /* any */
+        r15_6_9_15_0_ph = 0u; /* any */
+        r15_6_9_17_0_ph = 0u; /* any */
+        r15_6_9_18_0_ph = 0u; /* any */
+        r15_6_9_20_0_ph = 0u; /* any */
+        r15_3_2_0_ph = 0u;
+        goto arm_5;
     }
-    uint32_t r26_2 = CRegistersRegisters_read32(r9 + 4, 64u);
-    uint8_t r28 = CRegistersRegisters_read8(r9 + 4, 254u);
-    uint32_t r8_2 = (uint32_t)(r26_2 >> 8u) & 255u;
-    if ((r8_2 == 0u) || ((r28 < 2u) && (r8_2 > 63u))) {
+    uint8_t r5_9_732_0 = r14[16];
+    uint8_t r5_9_8_0 = r14[17];
+    uint16_t r5_9_9_0 = load16_aligned(r14 + 18);
+    uint8_t r5_8 = a0[11];
+    uint32_t r6 = CRegistersRegisters_read32(r14 + 4, 64u);
+    uint8_t r28 = StoryRegistersRegisters_read8(r14 + 4, 254u);
+    uint32_t r8 = (uint32_t)(r6 >> 8u) & 255u;
+    if ((r8 == 0u) || ((r28 < 2u) && (r8 > 63u))) {
         r5_4_3_0_ph = UINT32_C(0xffffffe9);
-        goto kelifandro_requests_serve_by_4f0efdd63e909db2_exit_thread;
+        goto kelifandro_requests_serve_by_cf572257659e7b45_exit_thread;
     }
-    uint8_t spec_select = (uint8_t)(r7 ? 0u : (uint8_t)(((r26_2 & UINT32_C(0x40000)) == 0u) ? 1u : 2u));
-    uint8_t r7_0_0 = (uint8_t)((uint8_t)(r26_2 >> 21u) & 1u);
-    memcpy(r8_10_3_5, r9 + 10, 26);
-    memset(r15_16 + 4, 0u, 13);
-    r5_8 = a0[11];
-    r3_0_0_pn_speculated = spec_select;
-    r3_3_0_pn_speculated = r7_0_0;
-    r8_22_0_ph = spec_select;
-    r8_23_0_ph = r7_0_0;
-    r8_2424_0_ph = r8_2;
-    r8_14_0_ph = r1_5_16;
-    r8_13_0_ph = r1_4_16;
-    r8_6_0_ph = 1u;
-    r8_25_0_ph = r28;
-    r8_2625_0_ph = r26_2;
-    goto arm_1;
-kelifandro_requests_serve_by_4f0efdd63e909db2_exit_thread: {
-    common_ret_op = r5_4_3_0_ph;
-    goto kelifandro_requests_told_bdc0d8dae079f39d_exit;
-}
-arm_1: {
-    bool r7_2 = r5_8 == 1u;
-    switch (r3_0_0_pn_speculated) {
-    default: {
-        trap();
-        return 0;
-    }
-    case 0u: {
-        goto after_2;
-    }
-    case 1u: {
-        if (r7_2) {
-            goto after_2;
-        }
-        r5_0_0 = 1u;
-        goto arm_5;
-    }
-    case 2u: {
-        r5_0_0 = (uint8_t)(r7_2 ? 0u : 2u);
-        goto arm_5;
-    }
-    }
-}
-after_2: {
-    r5_0_0 = 0u;
+    uint8_t spec_select = (uint8_t)((r5_8 == 1u) ? 0u : (uint8_t)(((r6 & UINT32_C(0x40000)) == 0u) ? 1u : 2u));
+    uint8_t r7_0_0 = (uint8_t)((uint8_t)(r6 >> 21u) & 1u);
+    memset(r21_15 + 4, 0u, 13);
+    memcpy(r23_6_4, r14 + 10, 6);
+    memcpy(r23_6_8_0, r14 + 20, 16);
+    r0_0_0_pn = spec_select;
+    r0_2_0_pn = r7_0_0;
+    r15_6_8_0_ph = r5_9_9_0;
+    r15_6_7_0_ph = r5_9_8_0;
+    r15_6_6_0_ph = r5_9_732_0;
+    r15_6_9_3_0_ph = r1_4_16;
+    r15_6_9_4_0_ph = r1_5_16;
+    r15_6_9_14_0_ph = spec_select;
+    r15_6_9_15_0_ph = r7_0_0;
+    r15_6_9_17_0_ph = r8;
+    r15_6_9_18_0_ph = r28;
+    r15_6_9_20_0_ph = r6;
+    r15_3_2_0_ph = 1u;
+    goto arm_5;
+kelifandro_requests_serve_by_cf572257659e7b45_exit_thread: {
+    r11_0 = r5_4_3_0_ph;
+    goto kelifandro_requests_told_fb070baa9c134c3e_exit;
 }
 arm_5: {
-    r2_4_88_insert_insert = (uint16_t)((uint16_t)((uint32_t)(uint16_t)r3_3_0_pn_speculated << 8u) | (uint16_t)r5_0_0);
-    memcpy(r13 + 16, r8 + 32, 131);
-    store128_aligned(r13, r26);
-    r13[147] = r1_4_16;
-    r13[148] = r1_5_16;
-    memcpy(r13 + 149, r8 + 165, 43);
-    struct of_i8_i8 r11_17 = rules_sectors_refusal(65535u, r9_0_0, r13 + 16, r10_0_0, r32, (r9_0_0 < 2u) ? a5 : r34);
+    memcpy(r11 + 16, r7 + 32, 131);
+    store128_aligned(r11, r24);
+    r11[147] = r1_4_16;
+    r11[148] = r1_5_16;
+    memcpy(r11 + 149, r7 + 165, 43);
+    struct of_i8_i8 r11_17 = rules_sectors_refusal(65535u, r9_0_0, r11 + 16, r10_0_0, r32, (r9_0_0 < 2u) ? a5 : r34);
     if (r11_17.f0 == 1u) {
         r11_pn_50 = r11_17.f1;
-        goto arm_1_10;
+        goto arm_1_11;
     }
-    if ((r13[128] & 1u) != 0) {
+    if ((r11[128] & 1u) != 0) {
         if (r9_0_0 == 0u) {
             goto join_4;
         }
         r11_pn_50 = 4u;
-        goto arm_1_10;
+        goto arm_1_11;
     }
     switch (r9_0_0) {
     default: {
@@ -1336,7 +1324,7 @@ arm_5: {
         goto join_4;
     }
     case 2u: {
-        uint64_t r18 = load64_aligned(r13 + 136);
+        uint64_t r18 = load64_aligned(r11 + 136);
         uint64_t r19 = r34 + r32;
         if (r18 == 0u) {
             trap();
@@ -1344,23 +1332,23 @@ arm_5: {
         }
         if ((r32 % r18) != 0u) {
             r11_pn_50 = (uint8_t)(((uint8_t)(r10_0_0 + 255u) < 2u) ? 5u : 7u);
-            goto arm_1_10;
+            goto arm_1_11;
         }
         if ((r19 % r18) == 0u) {
             r7_0_in = false;
             goto mmc_direct_rules_refusal_exit;
         }
-        uint64_t r40 = Sizes_of(r13 + 80, r10_0_0);
+        uint64_t r40 = Sizes_of(r11 + 80, r10_0_0);
         r7_0_in = r19 != r40;
         goto mmc_direct_rules_refusal_exit;
     }
     case 3u: {
         bool switch_8 = (uint8_t)(r10_0_0 + 253u) < 254u;
-        if (switch_8 && ((r13[145] & 1u) != 0)) {
+        if (switch_8 && ((r11[145] & 1u) != 0)) {
             goto join_4;
         }
         r11_pn_50 = (uint8_t)(switch_8 ? 6u : 5u);
-        goto arm_1_10;
+        goto arm_1_11;
     }
     }
 }
@@ -1368,106 +1356,107 @@ mmc_direct_rules_refusal_exit: {
     bool switch_2 = (uint8_t)(r10_0_0 + 255u) < 2u;
     if (switch_2 || r7_0_in) {
         r11_pn_50 = (uint8_t)(switch_2 ? 5u : 7u);
-        goto arm_1_10;
+        goto arm_1_11;
     }
 }
 join_4: {
-    store32_aligned(r10_20 + 4, r0_18_3_0_0_0);
-    r10_20[8] = r0_18_3_0_4_0;
-    r10_20[9] = r0_18_3_0_5_0;
-    memcpy(r10_20 + 10, r8_10_3_5, 26);
-    r10_20[36] = r8_13_0_ph;
-    r10_20[37] = r8_14_0_ph;
-    r10_20[38] = 0u;
-    r10_20[39] = 0u;
-    r10_20[40] = 0u;
-    store16_aligned(r10_20 + 42, 0u);
-    store16_aligned(r10_20 + 44, 0u);
-    store32_aligned(r10_20 + 52, 0u);
-    memcpy(r10_20 + 56, r15_16, 17);
-    r10_20[73] = r8_22_0_ph;
-    r10_20[74] = r8_23_0_ph;
-    store32_aligned(r10_20 + 76, r8_2424_0_ph);
-    r10_20[80] = r8_25_0_ph;
-    store32_aligned(r10_20 + 84, r8_2625_0_ph);
-    store32_aligned(r10_20, r8_6_0_ph);
-    store16_aligned(r10_20 + 88, r2_4_88_insert_insert);
+    store32_aligned(r8_20 + 4, r3_0_0);
+    r8_20[8] = r3_2_0;
+    r8_20[9] = r3_4_0;
+    memcpy(r8_20 + 10, r23_6_4, 6);
+    r8_20[16] = r15_6_6_0_ph;
+    r8_20[17] = r15_6_7_0_ph;
+    store16_aligned(r8_20 + 18, r15_6_8_0_ph);
+    memcpy(r8_20 + 20, r23_6_8_0, 16);
+    r8_20[36] = r15_6_9_3_0_ph;
+    r8_20[37] = r15_6_9_4_0_ph;
+    r8_20[38] = 0u;
+    r8_20[39] = 0u;
+    r8_20[40] = 0u;
+    store16_aligned(r8_20 + 42, 0u);
+    store16_aligned(r8_20 + 44, 0u);
+    store32_aligned(r8_20 + 52, 0u);
+    memcpy(r8_20 + 56, r21_15, 17);
+    r8_20[73] = r15_6_9_14_0_ph;
+    r8_20[74] = r15_6_9_15_0_ph;
+    store32_aligned(r8_20 + 76, r15_6_9_17_0_ph);
+    r8_20[80] = r15_6_9_18_0_ph;
+    store32_aligned(r8_20 + 84, r15_6_9_20_0_ph);
+    store32_aligned(r8_20, r15_3_2_0_ph);
     switch (r1_4_16) {
     default: {
         trap();
         return 0;
     }
     case 0u: {
-        goto after_2_2;
+        goto after_2;
     }
     case 1u: {
-        if (r5_0_0 == 0u) {
-            goto after_2_2;
+        if (r0_0_0_pn == 0u) {
+            goto after_2;
         }
-        r5_0_0_2 = 1u;
-        goto mmc_direct_going_on_go_on_aa513fd246906337_exit;
+        r5_0_0 = 1u;
+        goto mmc_direct_going_on_go_on_d568f3fc8d51bff2_exit;
     }
     case 2u: {
-        r5_0_0_2 = r5_0_0;
-        goto mmc_direct_going_on_go_on_aa513fd246906337_exit;
+        r5_0_0 = r0_0_0_pn;
+        goto mmc_direct_going_on_go_on_d568f3fc8d51bff2_exit;
     }
     }
 }
-after_2_2: {
-    r5_0_0_2 = 0u;
+after_2: {
+    r5_0_0 = 0u;
 }
-mmc_direct_going_on_go_on_aa513fd246906337_exit: {
-    uint8_t a1_2 = (uint8_t)((r1_5_16 == 0u) ? 0u : r3_3_0_pn_speculated);
-    *r22 = r5_0_0_2;
-    r22[1] = a1_2;
-    r22[2] = 0u;
-    StoryHostHost_set_ios(r10_20, r22);
-    uint8_t r62 = *r10_20;
-    uint16_t v13 = load16_aligned(r10_20 + 88);
-    memcpy(r16 + 4, r10_20 + 4, 84);
-    memset(r0_18 + 4, 0u, 13);
-    store32_aligned(r16, (uint32_t)r62);
-    store16_aligned(r16 + 88, v13);
-    r16[96] = r1_4_16;
-    r16[97] = r1_5_16;
-    r16[98] = r5_0_0;
-    r16[99] = r3_3_0_pn_speculated;
-    store64_aligned(r16 + 104, 0u);
-    store64_aligned(r16 + 144, 0u);
-    r16[152] = r5_0_0_2;
-    r16[153] = a1_2;
-    r16[154] = 0u;
-    r16[155] = 0u;
-    r16[156] = 0u;
-    store16_aligned(r16 + 158, 0u);
-    store16_aligned(r16 + 160, 0u);
-    store32_aligned(r16 + 168, 0u);
-    memcpy(r16 + 172, r0_18, 17);
-    memcpy(r1 + 16, r13 + 16, 176);
-    store128_aligned(r1, r26);
-    attempts_attempt(r12_28, r16, a2, r1, r4);
-    if (*r12_28 == 0u) {
-        uint8_t r7_2_144 = r12_28[160];
-        uint8_t r7_4_145 = r12_28[161];
-        uint8_t r7_6_146 = r12_28[162];
+mmc_direct_going_on_go_on_d568f3fc8d51bff2_exit: {
+    uint8_t a1_2 = (uint8_t)((r1_5_16 == 0u) ? 0u : r0_2_0_pn);
+    *r20 = r5_0_0;
+    r20[1] = a1_2;
+    r20[2] = 0u;
+    WayHost_set_ios(r8_20, r20);
+    uint8_t r56 = *r8_20;
+    memcpy(r14_7 + 4, r8_20 + 4, 84);
+    memset(r0_17 + 4, 0u, 13);
+    store32_aligned(r14_7, (uint32_t)r56);
+    r14_7[88] = r1_4_16;
+    r14_7[89] = r1_5_16;
+    r14_7[90] = r0_0_0_pn;
+    r14_7[91] = r0_2_0_pn;
+    store64_aligned(r14_7 + 96, 0u);
+    store64_aligned(r14_7 + 136, 0u);
+    r14_7[144] = r5_0_0;
+    r14_7[145] = a1_2;
+    r14_7[146] = 0u;
+    r14_7[147] = 0u;
+    r14_7[148] = 0u;
+    store16_aligned(r14_7 + 150, 0u);
+    store16_aligned(r14_7 + 152, 0u);
+    store32_aligned(r14_7 + 160, 0u);
+    memcpy(r14_7 + 164, r0_17, 17);
+    memcpy(r1 + 16, r11 + 16, 176);
+    store128_aligned(r1, r24);
+    attempts_attempt(r12_29, r14_7, a2, r1, r4);
+    if (*r12_29 == 0u) {
+        uint8_t r7_2_144 = r12_29[160];
+        uint8_t r7_4_145 = r12_29[161];
+        uint8_t r7_6_146 = r12_29[162];
         counting_count_done(a2);
-        memcpy(r33_4_3, r12_28 + 16, 144);
-        r33_8_0 = r7_2_144;
+        memcpy(r31_4_3, r12_29 + 16, 144);
         v16 = true;
         v17 = false;
-        r33_0_0 = 0u;
-        r33_11_0 = r7_4_145;
-        r33_14_0 = r7_6_146;
-        r33_18_0 = 0u; /* any */
-        goto mmc_direct_retries_keep_trying_fe711fb1a15a0417_exit;
+        r31_0_0 = 0u;
+        r31_8_0 = r7_2_144;
+        r31_11_0 = r7_4_145;
+        r31_14_0 = r7_6_146;
+        r31_18_0 = 0u; /* any */
+        goto mmc_direct_retries_keep_trying_46e1a3910cf7860d_exit;
     }
-    memcpy(r6_0, r12_28 + 16, 144);
-    uint8_t r8_2_0 = r12_28[160];
-    uint8_t r8_3_0 = r12_28[161];
-    uint8_t r8_4_0 = r12_28[162];
-    memcpy(r6_7_0, r12_28 + 163, 13);
-    uint8_t r8_6_0 = r12_28[176];
-    memcpy(r6_7_6, r12_28 + 177, 15);
+    memcpy(r6_0, r12_29 + 16, 144);
+    uint8_t r8_2_0 = r12_29[160];
+    uint8_t r8_3_0 = r12_29[161];
+    uint8_t r8_4_0 = r12_29[162];
+    memcpy(r6_7_0, r12_29 + 163, 13);
+    uint8_t r8_6_0 = r12_29[176];
+    memcpy(r6_7_6, r12_29 + 177, 15);
     counting_count_failed(a2, r8_6_0);
     r6_6_036 = r8_4_0;
     r6_5_035 = r8_3_0;
@@ -1476,37 +1465,37 @@ mmc_direct_going_on_go_on_aa513fd246906337_exit: {
     r6_7_4_032 = r8_6_0;
 }
 join_9: {
-    store128_aligned(r25_2, u128_of(0u, 1u));
-    memcpy(r25_2 + 16, r6_0, 144);
-    r25_2[160] = r6_4_034;
-    r25_2[161] = r6_5_035;
-    r25_2[162] = r6_6_036;
-    memcpy(r25_2 + 163, r6_7_0, 13);
-    r25_2[176] = r6_7_4_032;
-    memcpy(r25_2 + 177, r6_7_6, 15);
-    attempts_attempt(r22_2, r16, a2, r25_2, r4);
-    if (*r22_2 == 0u) {
-        uint8_t r10_2_144 = r22_2[160];
-        uint8_t r10_4_145 = r22_2[161];
-        uint8_t r10_6_146 = r22_2[162];
+    store128_aligned(r25, u128_of(0u, 1u));
+    memcpy(r25 + 16, r6_0, 144);
+    r25[160] = r6_4_034;
+    r25[161] = r6_5_035;
+    r25[162] = r6_6_036;
+    memcpy(r25 + 163, r6_7_0, 13);
+    r25[176] = r6_7_4_032;
+    memcpy(r25 + 177, r6_7_6, 15);
+    attempts_attempt(r22, r14_7, a2, r25, r4);
+    if (*r22 == 0u) {
+        uint8_t r10_2_144 = r22[160];
+        uint8_t r10_4_145 = r22[161];
+        uint8_t r10_6_146 = r22[162];
         counting_count_done(a2);
-        memcpy(r33_4_3, r22_2 + 16, 144);
-        r33_8_0 = r10_2_144;
+        memcpy(r31_4_3, r22 + 16, 144);
         v16 = true;
         v17 = false;
-        r33_0_0 = 0u;
-        r33_11_0 = r10_4_145;
-        r33_14_0 = r10_6_146;
-        r33_18_0 = 0u; /* any */
-        goto mmc_direct_retries_keep_trying_fe711fb1a15a0417_exit;
+        r31_0_0 = 0u;
+        r31_8_0 = r10_2_144;
+        r31_11_0 = r10_4_145;
+        r31_14_0 = r10_6_146;
+        r31_18_0 = 0u; /* any */
+        goto mmc_direct_retries_keep_trying_46e1a3910cf7860d_exit;
     }
-    memcpy(r6_0, r22_2 + 16, 144);
-    uint8_t r11_2_0 = r22_2[160];
-    uint8_t r11_3_0 = r22_2[161];
-    uint8_t r11_4_0 = r22_2[162];
-    memcpy(r6_7_0, r22_2 + 163, 13);
-    uint8_t r11_6_0 = r22_2[176];
-    memcpy(r6_7_6, r22_2 + 177, 15);
+    memcpy(r6_0, r22 + 16, 144);
+    uint8_t r11_2_0 = r22[160];
+    uint8_t r11_3_0 = r22[161];
+    uint8_t r11_4_0 = r22[162];
+    memcpy(r6_7_0, r22 + 163, 13);
+    uint8_t r11_6_0 = r22[176];
+    memcpy(r6_7_6, r22 + 177, 15);
     counting_count_failed(a2, r11_6_0);
     uint64_t r94 = r9_033 + 1u;
     if (r94 != 4u) {
@@ -1517,102 +1506,138 @@ join_9: {
         r6_7_4_032 = r11_6_0;
         goto join_9;
     }
-    memcpy(r33_4_3, r22_2 + 16, 144);
-    memcpy(r33_17, r22_2 + 163, 13);
-    memcpy(r33_19, r22_2 + 177, 15);
-    r33_8_0 = r11_2_0;
+    memcpy(r31_4_3, r22 + 16, 144);
+    memcpy(r31_17, r22 + 163, 13);
+    memcpy(r31_19, r22 + 177, 15);
     v16 = false;
     v17 = true;
-    r33_0_0 = 1u;
-    r33_11_0 = r11_3_0;
-    r33_14_0 = r11_4_0;
-    r33_18_0 = r11_6_0;
+    r31_0_0 = 1u;
+    r31_8_0 = r11_2_0;
+    r31_11_0 = r11_3_0;
+    r31_14_0 = r11_4_0;
+    r31_18_0 = r11_6_0;
 }
-mmc_direct_retries_keep_trying_fe711fb1a15a0417_exit: {
-    store128_aligned(r17, u128_of(0u, r33_0_0));
-    memcpy(r17 + 16, r33_4_3, 144);
-    r17[160] = r33_8_0;
-    r17[161] = r33_11_0;
-    r17[162] = r33_14_0;
-    memcpy(r17 + 163, r33_17, 13);
-    r17[176] = r33_18_0;
-    memcpy(r17 + 177, r33_19, 15);
+mmc_direct_retries_keep_trying_46e1a3910cf7860d_exit: {
+    store128_aligned(r15, u128_of(0u, r31_0_0));
+    memcpy(r15 + 16, r31_4_3, 144);
+    r15[160] = r31_8_0;
+    r15[161] = r31_11_0;
+    r15[162] = r31_14_0;
+    memcpy(r15 + 163, r31_17, 13);
+    r15[176] = r31_18_0;
+    memcpy(r15 + 177, r31_19, 15);
     if (v16) {
-        noted_note(r3_31, r17 + 16);
-        goto join_7;
+        noted_note(r3_32, r15 + 16);
+        goto kelifandro_requests_let_go_fb070baa9c134c3e_exit;
     }
-    noted_note_broken(r3_31, r17 + 16);
+    noted_note_broken(r3_32, r15 + 16);
 }
-join_7: {
-    memcpy(a1, r3_31, 104);
-    uint16_t r42_2_0 = load16_aligned(r16 + 84);
-    uint32_t r15_15_2_0_0 = load32_aligned(r16);
-    uint8_t r15_15_2_3_0 = r16[4];
-    uint8_t r15_15_2_4_0 = r16[5];
-    memcpy(r15_15_2_5, r16 + 6, 26);
-    uint8_t r15_15_2_6_0 = r16[32];
-    uint8_t r15_15_2_7_0 = r16[33];
-    uint8_t r15_15_2_8_0 = r16[34];
-    uint8_t r15_15_2_9_0 = r16[35];
-    uint8_t r15_15_2_10_0 = r16[36];
-    uint8_t r15_15_2_11_0 = r16[37];
-    uint16_t r15_15_2_12_0 = load16_aligned(r16 + 38);
-    uint16_t r15_15_2_13_0 = load16_aligned(r16 + 40);
-    memcpy(r14 + 42, r16 + 42, 6);
-    uint32_t r15_15_2_15_0 = load32_aligned(r16 + 48);
-    memcpy(r15_15_2_16, r16 + 52, 17);
-    uint8_t r15_15_2_17_0 = r16[69];
-    uint8_t r15_15_2_18_0 = r16[70];
-    uint8_t r15_15_2_19_0 = r16[71];
-    uint32_t r15_15_2_20_0 = load32_aligned(r16 + 72);
-    uint8_t r15_15_2_21_0 = r16[76];
-    memcpy(r15_15_2_22, r16 + 77, 3);
-    uint32_t r15_15_2_23_0 = load32_aligned(r16 + 80);
-    uint16_t r15_20_0_0 = load16_aligned(r16 + 86);
-    r14[4] = r15_15_2_3_0;
-    r14[5] = r15_15_2_4_0;
-    memcpy(r14 + 6, r15_15_2_5, 26);
-    r14[32] = r15_15_2_6_0;
-    r14[33] = r15_15_2_7_0;
-    r14[34] = r15_15_2_8_0;
-    r14[35] = r15_15_2_9_0;
-    r14[36] = r15_15_2_10_0;
-    r14[37] = r15_15_2_11_0;
-    store16_aligned(r14 + 38, r15_15_2_12_0);
-    store16_aligned(r14 + 40, r15_15_2_13_0);
-    store32_aligned(r14 + 48, r15_15_2_15_0);
-    memcpy(r14 + 52, r15_15_2_16, 17);
-    r14[69] = r15_15_2_17_0;
-    r14[70] = r15_15_2_18_0;
-    r14[71] = r15_15_2_19_0;
-    store32_aligned(r14 + 72, r15_15_2_20_0);
-    r14[76] = r15_15_2_21_0;
-    memcpy(r14 + 77, r15_15_2_22, 3);
-    store32_aligned(r14 + 80, r15_15_2_23_0);
-    store32_aligned(r14, r15_15_2_0_0 & 255u);
-    store16_aligned(r14 + 84, r42_2_0);
-    store16_aligned(r14 + 86, r15_20_0_0);
-    R_end(r14, v17);
+kelifandro_requests_let_go_fb070baa9c134c3e_exit: {
+    memcpy(a1, r3_32, 104);
+    uint32_t r14_15_2_0_0_54 = load32_aligned(r14_7);
+    uint8_t r14_15_2_3_0_55 = r14_7[4];
+    uint8_t r14_15_2_4_0_56 = r14_7[5];
+    memcpy(r14_15_2_5, r14_7 + 6, 6);
+    uint8_t r14_15_2_6_0_57 = r14_7[12];
+    uint8_t r14_15_2_7_0_58 = r14_7[13];
+    uint16_t r14_15_2_8_0_59 = load16_aligned(r14_7 + 14);
+    memcpy(r14_15_2_9, r14_7 + 16, 16);
+    uint8_t r14_15_2_10_0_60 = r14_7[32];
+    uint8_t r14_15_2_11_0_61 = r14_7[33];
+    uint8_t r14_15_2_12_0_62 = r14_7[34];
+    uint8_t r14_15_2_13_0_63 = r14_7[35];
+    uint8_t r14_15_2_14_0_64 = r14_7[36];
+    uint8_t r14_15_2_15_0_65 = r14_7[37];
+    uint16_t r14_15_2_16_0_66 = load16_aligned(r14_7 + 38);
+    uint16_t r14_15_2_17_0_67 = load16_aligned(r14_7 + 40);
+    memcpy(r14_15_2_18, r14_7 + 42, 6);
+    uint32_t r14_15_2_19_0_68 = load32_aligned(r14_7 + 48);
+    memcpy(r14_15_2_20, r14_7 + 52, 17);
+    uint8_t r14_15_2_21_0_69 = r14_7[69];
+    uint8_t r14_15_2_22_0_70 = r14_7[70];
+    uint8_t r14_15_2_23_0_71 = r14_7[71];
+    uint32_t r14_15_2_24_0_72 = load32_aligned(r14_7 + 72);
+    uint8_t r14_15_2_25_0_73 = r14_7[76];
+    memcpy(r14_15_2_26, r14_7 + 77, 3);
+    uint32_t r14_15_2_27_0_74 = load32_aligned(r14_7 + 80);
+    uint32_t r14_15_2_28_0_0 = load32_aligned(r14_7 + 84);
+    memcpy(r4_2 + 6, r14_15_2_5, 6);
+    memcpy(r4_2 + 52, r14_15_2_20, 17);
+    r4_2[4] = r14_15_2_3_0_55;
+    r4_2[5] = r14_15_2_4_0_56;
+    r4_2[12] = r14_15_2_6_0_57;
+    r4_2[13] = r14_15_2_7_0_58;
+    store16_aligned(r4_2 + 14, r14_15_2_8_0_59);
+    memcpy(r4_2 + 16, r14_15_2_9, 16);
+    r4_2[32] = r14_15_2_10_0_60;
+    r4_2[33] = r14_15_2_11_0_61;
+    r4_2[34] = r14_15_2_12_0_62;
+    r4_2[35] = r14_15_2_13_0_63;
+    r4_2[36] = r14_15_2_14_0_64;
+    r4_2[37] = r14_15_2_15_0_65;
+    store16_aligned(r4_2 + 38, r14_15_2_16_0_66);
+    store16_aligned(r4_2 + 40, r14_15_2_17_0_67);
+    memcpy(r4_2 + 42, r14_15_2_18, 6);
+    store32_aligned(r4_2 + 48, r14_15_2_19_0_68);
+    r4_2[69] = r14_15_2_21_0_69;
+    r4_2[70] = r14_15_2_22_0_70;
+    r4_2[71] = r14_15_2_23_0_71;
+    store32_aligned(r4_2 + 72, r14_15_2_24_0_72);
+    r4_2[76] = r14_15_2_25_0_73;
+    memcpy(r4_2 + 77, r14_15_2_26, 3);
+    store32_aligned(r4_2 + 80, r14_15_2_27_0_74);
+    store32_aligned(r4_2 + 84, r14_15_2_28_0_0);
+    store32_aligned(r4_2, r14_15_2_0_0_54 & 255u);
+    hosts_end(r4_2, v17);
     if (v16) {
-        common_ret_op = 0u;
-        goto kelifandro_requests_told_bdc0d8dae079f39d_exit;
+        r11_0 = 0u;
+        goto kelifandro_requests_told_fb070baa9c134c3e_exit;
     }
-    common_ret_op = UINT32_C(0xfffffff6) - (uint32_t)r33_18_0;
-    goto kelifandro_requests_told_bdc0d8dae079f39d_exit;
+    r11_0 = UINT32_C(0xfffffff6) - (uint32_t)r31_18_0;
+    goto kelifandro_requests_told_fb070baa9c134c3e_exit;
 }
-arm_1_10: {
-    if (r25 == 0u) {
-        noted_note(r3, r13 + 16);
-        goto arm_5_2;
+arm_1_11: {
+    if (r23 == 0u) {
+        noted_note(r3, r11 + 16);
+        goto arm_5_11;
     }
-    noted_note_broken(r3, r13 + 16);
+    noted_note_broken(r3, r11 + 16);
 }
-arm_5_2: {
+arm_5_11: {
     memcpy(a1, r3, 104);
-    common_ret_op = load32_aligned(at((uint8_t *)bytes_answers_refused_number, (uint64_t)r11_pn_50 * 4u));
+    memcpy(r14_15_2_5, r23_6_4, 6);
+    memcpy(r14_15_2_9, r23_6_8_0, 16);
+    memcpy(r14_15_2_20, r21_15, 17);
+    store32_aligned(r15_6, r15_3_2_0_ph);
+    store32_aligned(r15_6 + 4, r3_0_0);
+    r15_6[8] = r3_2_0;
+    r15_6[9] = r3_4_0;
+    memcpy(r15_6 + 10, r14_15_2_5, 6);
+    r15_6[16] = r15_6_6_0_ph;
+    r15_6[17] = r15_6_7_0_ph;
+    store16_aligned(r15_6 + 18, r15_6_8_0_ph);
+    memcpy(r15_6 + 20, r14_15_2_9, 16);
+    r15_6[36] = r15_6_9_3_0_ph;
+    r15_6[37] = r15_6_9_4_0_ph;
+    r15_6[38] = 0u;
+    r15_6[39] = 0u;
+    r15_6[40] = 0u;
+    store16_aligned(r15_6 + 42, 0u);
+    store16_aligned(r15_6 + 44, 0u);
+    memcpy(r15_6 + 46, r14_15_2_18, 6);
+    store32_aligned(r15_6 + 52, 0u);
+    memcpy(r15_6 + 56, r14_15_2_20, 17);
+    r15_6[73] = r15_6_9_14_0_ph;
+    r15_6[74] = r15_6_9_15_0_ph;
+    store32_aligned(r15_6 + 76, r15_6_9_17_0_ph);
+    r15_6[80] = r15_6_9_18_0_ph;
+    memcpy(r15_6 + 81, r14_15_2_26, 3);
+    store32_aligned(r15_6 + 84, r15_6_9_20_0_ph);
+    hosts_end(r15_6, false);
+    r11_0 = load32_aligned(at((uint8_t *)bytes_answers_refused_number, (uint64_t)r11_pn_50 * 4u));
 }
-kelifandro_requests_told_bdc0d8dae079f39d_exit: {
-    return common_ret_op;
+kelifandro_requests_told_fb070baa9c134c3e_exit: {
+    return r11_0;
 }
 }
 
@@ -1640,18 +1665,18 @@ sdhci_board_known_Known_shown_exit: {
 }
 }
 
-/* c_host::registers::CRegistersRegisters::read8 */
-static uint8_t CRegistersRegisters_read8(uint8_t *a0, uint8_t a1)
+/* sdhci_story::registers::StoryRegistersRegisters::read8::<#52343085cde207f1> */
+static uint8_t StoryRegistersRegisters_read8(uint8_t *a0, uint8_t a1)
 {
     uint8_t r2_0;
     if ((a0[16] & 1u) != 0) {
         uint8_t r14 = CRegisters_read_in_word(a0, a1);
         r2_0 = r14;
-        goto join_3;
+        goto c_host_registers_CRegistersRegisters_read8_exit;
     }
     uint32_t r16 = Stream_read_register(a0, 1u, a1);
     r2_0 = (uint8_t)r16;
-join_3: {
+c_host_registers_CRegistersRegisters_read8_exit: {
     return r2_0;
 }
 }
@@ -1787,34 +1812,36 @@ static void noted_note_broken(uint8_t *a0, uint8_t *a1)
     return;
 }
 
-/* mmc_story::host::StoryHostHost::set_ios::<#4c4a06f79826ed18> */
-static void StoryHostHost_set_ios(uint8_t *a0, uint8_t *a1)
+/* c_host::way::WayHost::set_ios::<#b4302b8119c90b07> */
+static void WayHost_set_ios(uint8_t *a0, uint8_t *a1)
 {
     KELIFANDRO_ROOM uint8_t r0[3];
-    memcpy(r0, a1, 3);
+    uint8_t r0_0_0 = *a1;
+    uint8_t r0_3_0 = a1[1];
+    uint8_t r0_4_0 = a1[2];
     if (*a0 == 0u) {
-        Stream_set_ios(a0 + 4, r0);
-        goto c_host_way_WayHost_set_ios_8f37c45b52eb2043_exit;
+        *r0 = r0_0_0;
+        r0[1] = r0_3_0;
+        r0[2] = r0_4_0;
+        CFunctionsHost_set_ios(a0 + 4, r0);
+        goto join_4;
     }
-    uint8_t r0_0_0 = *r0;
-    uint8_t r0_2_0 = r0[1];
-    uint8_t r0_3_0 = r0[2];
     uint32_t r9 = load32_aligned(a0 + 76);
     uint8_t r11 = a0[80];
-    bool v1 = r0_2_0 == 0u;
-    CRegistersRegisters_write8(a0 + 4, 40u, (uint8_t)((uint8_t)(v1 ? 0u : 4u) | (uint8_t)((uint32_t)UINT32_C(0x200200) >> ((((uint32_t)r0_0_0 << 3u) & UINT32_C(0xffffff)) & 31u))));
-    clock_set_clock(a0 + 4, r9, r11, ((r0_3_0 & 1u) != 0) ? UINT32_C(0x61a80) : (v1 ? UINT32_C(0x17d7840) : UINT32_C(0x2faf080)));
+    bool v1 = r0_3_0 == 0u;
+    StoryRegistersRegisters_write8(a0 + 4, 40u, (uint8_t)((uint8_t)(v1 ? 0u : 4u) | (uint8_t)((uint32_t)UINT32_C(0x200200) >> ((((uint32_t)r0_0_0 << 3u) & UINT32_C(0xffffff)) & 31u))));
+    clock_set_clock(a0 + 4, r9, r11, ((r0_4_0 & 1u) != 0) ? UINT32_C(0x61a80) : (v1 ? UINT32_C(0x17d7840) : UINT32_C(0x2faf080)));
     a0[36] = r0_0_0;
-    a0[37] = r0_2_0;
-    a0[38] = r0_3_0;
+    a0[37] = r0_3_0;
+    a0[38] = r0_4_0;
     a0[72] = 1u;
-c_host_way_WayHost_set_ios_8f37c45b52eb2043_exit: {
+join_4: {
     return;
 }
 }
 
-/* c_host::stream::Stream::set_ios */
-static void Stream_set_ios(uint8_t *a0, uint8_t *a1)
+/* c_host::functions::CFunctionsHost::set_ios */
+static void CFunctionsHost_set_ios(uint8_t *a0, uint8_t *a1)
 {
     KELIFANDRO_ROOM uint8_t r3[7];
     uint8_t r0_0_0 = *a1;
@@ -1828,7 +1855,7 @@ static void Stream_set_ios(uint8_t *a0, uint8_t *a1)
     return;
 }
 
-/* mmc_sdhci::clock::set_clock::<#a418df33b11c0b05> */
+/* mmc_sdhci::clock::set_clock::<#d002fd087b3dc1c2> */
 static void clock_set_clock(uint8_t *a0, uint32_t a1, uint8_t a2, uint32_t a3)
 {
     uint32_t common_ret_op;
@@ -1852,9 +1879,9 @@ mmc_sdhci_clock_divider_exit: {
     r0_04 = 0u;
 }
 join_5: {
-    uint8_t r15 = CRegistersRegisters_read8(a0, 44u);
+    uint8_t r15 = StoryRegistersRegisters_read8(a0, 44u);
     if (!((uint8_t)(r15 & 2u) == 0u)) {
-        goto mmc_sdhci_settling_settle_clock_a418df33b11c0b05_exit;
+        goto mmc_sdhci_settling_settle_clock_d002fd087b3dc1c2_exit;
     }
     Stream_pause(a0, 100u);
     uint32_t r27 = r0_04 + 1u;
@@ -1862,9 +1889,9 @@ join_5: {
         r0_04 = r27;
         goto join_5;
     }
-    CRegistersRegisters_read8(a0, 44u);
+    StoryRegistersRegisters_read8(a0, 44u);
 }
-mmc_sdhci_settling_settle_clock_a418df33b11c0b05_exit: {
+mmc_sdhci_settling_settle_clock_d002fd087b3dc1c2_exit: {
     Stream_write_register(a0, 4u, 44u, r13_6 + UINT32_C(0xe0005));
     return;
 }
@@ -1880,7 +1907,7 @@ static void Stream_pause(uint8_t *a0, uint32_t a1)
     return;
 }
 
-/* mmc_direct::attempts::attempt::<#fe711fb1a15a0417> */
+/* mmc_direct::attempts::attempt::<#46e1a3910cf7860d> */
 static void attempts_attempt(uint8_t *a0, uint8_t *a1, uint8_t *a2, uint8_t *a3, uint8_t *a4)
 {
     KELIFANDRO_ROOM uint8_t room[652];
@@ -1888,7 +1915,7 @@ static void attempts_attempt(uint8_t *a0, uint8_t *a1, uint8_t *a2, uint8_t *a3,
     uint8_t *const r0_6_23 = room;
     uint8_t *const r8_2 = room;
     uint8_t *const r0_6 = room;
-    uint8_t *const r8_4 = room;
+    uint8_t *const r8_3 = room;
     uint8_t *const r8_3_2_11 = room;
     uint8_t *const r6 = room;
     uint8_t *const r17 = room;
@@ -1917,13 +1944,13 @@ static void attempts_attempt(uint8_t *a0, uint8_t *a1, uint8_t *a2, uint8_t *a3,
     uint8_t *const r2_1 = room + 208;
     uint8_t *const r3_2 = room + 208;
     uint8_t *const r17_4 = room + 208;
-    uint8_t *const r2_1_7 = room + 208;
-    uint8_t *const r6_2_2 = room + 208;
+    uint8_t *const r2_7 = room + 208;
+    uint8_t *const r6_3 = room + 208;
     uint8_t *const r3_11 = room + 208;
-    uint8_t *const r4_137 = room + 208;
+    uint8_t *const r0_93 = room + 208;
     uint8_t *const r12_13_2 = room + 208;
     uint8_t *const r5_14 = room + 208;
-    uint8_t *const r8_5 = room + 208;
+    uint8_t *const r8_4 = room + 208;
     uint8_t *const r17_3 = room + 208;
     uint8_t *const r21 = room + 208;
     uint8_t *const r24 = room + 208;
@@ -1933,7 +1960,7 @@ static void attempts_attempt(uint8_t *a0, uint8_t *a1, uint8_t *a2, uint8_t *a3,
     uint8_t *const r2_2 = room + 208;
     uint8_t *const r3_4 = room + 208;
     uint8_t *const r16_4 = room + 208;
-    uint8_t *const r2_1_2 = room + 208;
+    uint8_t *const r2_3 = room + 208;
     uint8_t *const r18_3 = room + 208;
     uint8_t *const r3_5 = room + 208;
     uint8_t *const r12_2 = room + 208;
@@ -1943,10 +1970,10 @@ static void attempts_attempt(uint8_t *a0, uint8_t *a1, uint8_t *a2, uint8_t *a3,
     uint8_t *const r23_2 = room + 208;
     uint8_t *const r26 = room + 208;
     uint8_t *const r30 = room + 208;
-    uint8_t *const r1_4 = room + 208;
+    uint8_t *const r1_6 = room + 208;
     uint8_t *const r0_3_2 = room + 208;
     uint8_t *const r1 = room + 208;
-    uint8_t *const r4_16_2 = room + 216;
+    uint8_t *const r0_11 = room + 216;
     uint8_t *const r2_2_1_5 = room + 224;
     uint8_t *const r1_10 = room + 232;
     uint8_t *const r4_12 = room + 232;
@@ -1956,25 +1983,25 @@ static void attempts_attempt(uint8_t *a0, uint8_t *a1, uint8_t *a2, uint8_t *a3,
     uint8_t *const r8_6 = room + 232;
     uint8_t *const r7_17 = room + 240;
     uint8_t *const r7_4 = room + 240;
-    uint8_t *const r8_3_2 = room + 248;
+    uint8_t *const r8_5 = room + 248;
     uint8_t *const r9_5 = room + 248;
     uint8_t *const r7_15 = room + 248;
     uint8_t *const r18_2 = room + 248;
-    uint8_t *const r9_2 = room + 248;
+    uint8_t *const r9_7_2 = room + 248;
     uint8_t *const r3_3 = room + 248;
     uint8_t *const r20 = room + 248;
     uint8_t *const r4_3 = room + 256;
     uint8_t *const r8_0_4 = room + 256;
     uint8_t *const r10_6 = room + 256;
-    uint8_t *const r1_2_8 = room + 256;
+    uint8_t *const r1_8 = room + 256;
     uint8_t *const r4_4 = room + 256;
     uint8_t *const r8_0 = room + 256;
-    uint8_t *const r10_2 = room + 256;
-    uint8_t *const r1_2_2 = room + 256;
+    uint8_t *const r10_8 = room + 256;
+    uint8_t *const r1_5 = room + 256;
     uint8_t *const r3_2_19 = room + 264;
     uint8_t *const r3_2_2 = room + 264;
-    uint8_t *const r1_3_9 = room + 272;
-    uint8_t *const r1_3_2 = room + 272;
+    uint8_t *const r1_9 = room + 272;
+    uint8_t *const r1_4 = room + 272;
     uint8_t *const r4_16 = room + 288;
     uint8_t *const r4_5 = room + 288;
     uint8_t *const r5_8 = room + 304;
@@ -2023,19 +2050,19 @@ static void attempts_attempt(uint8_t *a0, uint8_t *a1, uint8_t *a2, uint8_t *a3,
     uint8_t r0_4_2_4_0_13_sink_73;
     uint64_t r54_15;
     uint8_t *r56_16;
-    bool r5_91;
-    uint16_t r7_92;
-    bool r8_3;
+    bool r5_92;
+    uint16_t r7_93;
+    bool r8_94;
     uint32_t r16;
     uint8_t r3_0_0;
     uint8_t r0_0_0;
-    uint32_t r31_116;
+    uint32_t r31_118;
     uint32_t r1_0_0;
     uint8_t r27;
-    uint8_t *r4_sink_97;
-    uint8_t r0_0_0_120;
-    uint32_t r19_121;
-    bool r21_122;
+    uint8_t *r4_sink_99;
+    uint8_t r0_0_0_122;
+    uint32_t r19_123;
+    bool r21_124;
     uint8_t v1;
     uint8_t r38;
     uint64_t r3_0_0_2;
@@ -2043,17 +2070,17 @@ static void attempts_attempt(uint8_t *a0, uint8_t *a1, uint8_t *a2, uint8_t *a3,
     uint8_t r3_6_0;
     uint16_t r3_7_0;
     uint16_t r3_8_0;
-    uint8_t r4_0_0_152;
-    uint8_t r4_2_0_153;
+    uint8_t r4_0_0_154;
+    uint8_t r4_2_0_155;
     uint8_t r28_0_0;
     uint8_t r28_2_0;
-    uint8_t r5_0_0_157;
+    uint8_t r5_0_0_159;
     bool v57;
-    bool spec_select_163;
-    uint8_t r5_0_0_165;
-    uint8_t a1_166;
-    uint8_t r29_167;
-    uint8_t r1_0_0_180;
+    bool spec_select_165;
+    uint8_t r5_0_0_167;
+    uint8_t a1_168;
+    uint8_t r29_169;
+    uint8_t r1_0_0_181;
     uint64_t r5_1417_1;
     uint8_t r5_13_1;
     uint8_t r5_1014_1;
@@ -2064,34 +2091,34 @@ static void attempts_attempt(uint8_t *a0, uint8_t *a1, uint8_t *a2, uint8_t *a3,
     uint8_t r5_1014_0;
     uint8_t r5_611_0;
     uint8_t r5_4_0;
-    uint8_t r5_0_0_4;
+    uint8_t r5_0_0;
     uint8_t r1_0_0_2;
     uint8_t r1_4_0_35;
     bool r4_0_0_shrunk;
     uint64_t r4_6_0;
-    uint8_t r4_76_1;
-    uint8_t r4_4_1;
+    uint8_t r0_52_0;
+    uint8_t r0_3_0;
     uint8_t *sink_phi;
     uint8_t r1_4_0_35_sink;
     uint64_t r4_6_0_sink;
-    uint8_t r4_16_0_r4_16_0_r4_16_0;
-    uint8_t r4_137_0_r4_137_0_r4_137_0;
-    uint64_t r4_188_0;
-    uint8_t r4_76_0;
-    uint8_t r4_4_0;
-    uint8_t r4_0_0_181;
-    uint16_t r1_74_0_184;
-    uint8_t r1_147_0_185;
-    uint32_t r1_168_0_186;
-    uint32_t r1_18_0_187;
-    uint32_t r1_20_0_188;
-    uint32_t r1_22_0_189;
+    uint8_t r4_11_0_182;
+    uint8_t r4_96_0;
+    uint64_t r4_137_0;
+    uint8_t r4_55_0;
+    uint8_t r4_3_0_183;
+    uint8_t r4_0_0_184;
+    uint16_t r1_74_0_186;
+    uint8_t r1_147_0_187;
+    uint32_t r1_168_0_188;
+    uint32_t r1_18_0_189;
+    uint32_t r1_20_0_190;
+    uint32_t r1_22_0_191;
     bool v80;
-    uint16_t r8_13_0_195;
-    uint16_t r8_11_0_196;
-    uint16_t r8_9_0_197;
-    uint8_t r8_5_0_198;
-    uint8_t r8_3_0_199;
+    uint16_t r8_13_0_198;
+    uint16_t r8_11_0_199;
+    uint16_t r8_9_0_200;
+    uint8_t r8_5_0_201;
+    uint8_t r8_3_0_202;
     uint8_t v83;
     uint64_t r10_33_013;
     uint8_t r10_0_012;
@@ -2100,24 +2127,24 @@ static void attempts_attempt(uint8_t *a0, uint8_t *a1, uint8_t *a2, uint8_t *a3,
     bool r13_5_0;
     uint64_t r13_91_0;
     uint8_t r0_3_0_1619;
-    uint32_t r28_146;
+    uint32_t r28_148;
     uint32_t r13_5_0_ph;
     uint32_t r13_7_0_ph;
-    uint8_t r4_4_0_137;
-    uint8_t r4_0_0_138;
+    uint8_t r4_4_0_139;
+    uint8_t r4_0_0_140;
     struct of_i8_i8 r27_pn;
-    uint8_t r0_0_0_99;
+    uint8_t r0_0_0_101;
     uint8_t *sink53_phi;
     uint8_t r22_4_0_sink;
     uint8_t *sink52_phi;
     uint8_t r33_sink;
     uint8_t *sink51_phi;
-    uint8_t sink_100;
+    uint8_t sink_102;
     uint64_t r37;
     uint8_t *r39;
     bool r5;
     uint16_t r7_2;
-    uint64_t r15;
+    uint64_t r15_11;
     bool r8_not;
     uint8_t r29;
     uint8_t *r4_sink;
@@ -2130,10 +2157,10 @@ static void attempts_attempt(uint8_t *a0, uint8_t *a1, uint8_t *a2, uint8_t *a3,
     uint8_t r4_2_0;
     uint8_t r24_0_0;
     uint8_t r24_2_0;
-    uint8_t r5_0_0;
+    uint8_t r5_0_0_2;
     bool v18;
     bool spec_select;
-    uint8_t r5_0_0_2;
+    uint8_t r5_0_0_3;
     uint8_t a1_2;
     uint8_t r29_2;
     uint64_t r4_042;
@@ -2179,7 +2206,7 @@ static void attempts_attempt(uint8_t *a0, uint8_t *a1, uint8_t *a2, uint8_t *a3,
     uint32_t r28_2;
     uint32_t r14_7_0_ph_ph;
     uint32_t r14_5_0_ph_ph;
-    uint8_t r4_4_0_2;
+    uint8_t r4_4_0;
     uint8_t r4_0_0_3;
     struct of_i8_i8 r30_pn;
     uint8_t r0_0_0_3;
@@ -2221,11 +2248,11 @@ static void attempts_attempt(uint8_t *a0, uint8_t *a1, uint8_t *a2, uint8_t *a3,
         struct of_i8_i8 r9 = order_restore(a1, r3);
         if (!((r9.f0 == 1u) && (r9.f1 == 0u))) {
             r28_fca_1_insert_merged = r9;
-            goto mmc_recovery_order_restore_with_bbb6b08ee4b3c338_exit;
+            goto mmc_recovery_order_restore_with_1bed76fd314cf36e_exit;
         }
         struct of_i8_i8 r18 = order_restore(a1, r3);
         r28_fca_1_insert_merged = r18;
-        goto mmc_recovery_order_restore_with_bbb6b08ee4b3c338_exit;
+        goto mmc_recovery_order_restore_with_1bed76fd314cf36e_exit;
     }
     memcpy(r8, a3 + 16, 144);
     r8[144] = r1_6_16;
@@ -2240,8 +2267,8 @@ static void attempts_attempt(uint8_t *a0, uint8_t *a1, uint8_t *a2, uint8_t *a3,
     r13_3_2_5_0_sink = r6[162];
     r13_3_2_6_sink = r6 + 163;
     r44_sink_off0 = true;
-    goto mmc_direct_attempts_settled_bbb6b08ee4b3c338_exit;
-mmc_recovery_order_restore_with_bbb6b08ee4b3c338_exit: {
+    goto mmc_direct_attempts_settled_1bed76fd314cf36e_exit;
+mmc_recovery_order_restore_with_1bed76fd314cf36e_exit: {
     uint8_t r44 = r28_fca_1_insert_merged.f0;
     if (r44 == 0u) {
         memcpy(r13_3_2_0, r3, 144);
@@ -2252,7 +2279,7 @@ mmc_recovery_order_restore_with_bbb6b08ee4b3c338_exit: {
         r13_3_2_5_0_sink = r1_8_16;
         r13_3_2_6_sink = r13_3_2_6;
         r44_sink_off0 = false;
-        goto mmc_direct_attempts_settled_bbb6b08ee4b3c338_exit;
+        goto mmc_direct_attempts_settled_1bed76fd314cf36e_exit;
     }
     reopening_reset(r17, a1, r3);
     uint8_t r62 = *r17;
@@ -2269,7 +2296,7 @@ mmc_recovery_order_restore_with_bbb6b08ee4b3c338_exit: {
     r13_3_2_6_sink = r13_3_2_6;
     r44_sink_off0 = (r44 & 1u) != 0;
 }
-mmc_direct_attempts_settled_bbb6b08ee4b3c338_exit: {
+mmc_direct_attempts_settled_1bed76fd314cf36e_exit: {
     uint8_t r2_2_1_0_0_0 = *r13_3_2_0_sink;
     uint8_t r2_2_1_0_6_0 = r13_3_2_0_sink[1];
     uint16_t r2_2_1_0_7_0 = load16_aligned(r13_3_2_0_sink + 2);
@@ -2317,7 +2344,7 @@ join_4: {
         r31_9_2_0_sink = 1u;
         sink42_phi = r12_16;
         sink = r2_0_0;
-        goto mmc_direct_attempts_prepared_bbb6b08ee4b3c338_exit;
+        goto mmc_direct_attempts_prepared_1bed76fd314cf36e_exit;
     }
     struct of_i8_i8 r98 = mmc_switch(a1, r1_0_3_0, ((uint32_t)(uint8_t)((uint8_t)(r1_2_144 & 248u) | (uint8_t)((uint64_t)UINT64_C(0x7060504020100) >> ((((uint64_t)r2_0_0 << 3u) & UINT64_C(0xffffffffffffff)) & 63u))) << 8u) | UINT32_C(0x3b30000));
     bool v6 = r98.f0 == 0u;
@@ -2332,7 +2359,7 @@ join_4: {
     sink42_phi = r12_21;
     sink = 0u;
 }
-mmc_direct_attempts_prepared_bbb6b08ee4b3c338_exit: {
+mmc_direct_attempts_prepared_1bed76fd314cf36e_exit: {
     *sink44_phi = a3_sink;
     *sink43_phi = r31_9_2_0_sink;
     *sink42_phi = sink;
@@ -2390,7 +2417,7 @@ mmc_direct_attempts_prepared_bbb6b08ee4b3c338_exit: {
         store32_aligned(r8_2 + 184, (r28 > 1u) ? (uint32_t)(uint8_t)((uint8_t)(r1_2_0 & 1u) ^ 1u) : 1u);
         r5 = r37 == 0u;
         r7_2 = (uint16_t)(r5 ? 1u : (uint16_t)umin64(r37, 65535u));
-        r15 = r37 << 9u;
+        r15_11 = r37 << 9u;
         r8_not = r37 != 0u;
         goto loop_2;
     }
@@ -2413,18 +2440,18 @@ mmc_direct_attempts_prepared_bbb6b08ee4b3c338_exit: {
         r8_21[172] = 1u;
         store32_aligned(r8_21 + 176, 1u);
         store32_aligned(r8_21 + 184, (r25 > 1u) ? (uint32_t)(uint8_t)((uint8_t)(r1_2_0_29 & 1u) ^ 1u) : 1u);
-        r5_91 = r54_15 == 0u;
-        r7_92 = (uint16_t)(r5_91 ? 1u : (uint16_t)umin64(r54_15, 65535u));
-        r8_3 = r54_15 != 0u;
-        goto loop_2_93;
+        r5_92 = r54_15 == 0u;
+        r7_93 = (uint16_t)(r5_92 ? 1u : (uint16_t)umin64(r54_15, 65535u));
+        r8_94 = r54_15 != 0u;
+        goto loop_2_95;
     }
     case 2u: {
-        request_erase(r8_4, a1, r1, r34, load64_aligned(a4 + 16), 0u);
-        goto kelifandro_request_CRequestRequest_run_bbb6b08ee4b3c338_exit;
+        request_erase(r8_3, a1, r1, r34, load64_aligned(a4 + 16), 0u);
+        goto kelifandro_request_CRequestRequest_run_1bed76fd314cf36e_exit;
     }
     case 3u: {
-        request_erase(r8_4, a1, r1, r34, load64_aligned(a4 + 16), 1u);
-        goto kelifandro_request_CRequestRequest_run_bbb6b08ee4b3c338_exit;
+        request_erase(r8_3, a1, r1, r34, load64_aligned(a4 + 16), 1u);
+        goto kelifandro_request_CRequestRequest_run_1bed76fd314cf36e_exit;
     }
     }
 }
@@ -2441,127 +2468,127 @@ arm_2: {
     r0_4_2_7_sink = r10_10;
     goto common_ret;
 }
-loop_2_93: {
+loop_2_95: {
     uint8_t r14 = r8_21[176];
     if (r14 != 1u) {
         if (r14 != 0u) {
             r27 = r8_21[184];
-            goto arm_2_96;
+            goto arm_2_98;
         }
         r16 = load32_aligned(r8_21 + 180);
-        uint8_t *r14_114 = at(r56_16, (uint64_t)r16 << 9u);
-        if (a1[152] != a1[96]) {
+        uint8_t *r14_116 = at(r56_16, (uint64_t)r16 << 9u);
+        if (a1[144] != a1[88]) {
             goto then_1;
         }
-        if (a1[153] != a1[97]) {
+        if (a1[145] != a1[89]) {
             goto then_1;
         }
-        if (a1[160] != 2u) {
+        if (a1[152] != 2u) {
             goto then_1;
         }
         if (*a1 != 0u) {
-            uint8_t r14_20 = SdhciHost_write_block(a1 + 4, r14_114);
-            r3_0_0 = r14_20;
-            goto mmc_story_host_StoryHostHost_write_block_4c4a06f79826ed18_exit;
+            uint8_t r14_19 = SdhciHost_write_block(a1 + 4, r14_116);
+            r3_0_0 = r14_19;
+            goto c_host_way_WayHost_write_block_b4302b8119c90b07_exit;
         }
         *r1_2 = 2u;
         r1_2[1] = 0u;
         r1_2[2] = 0u;
         r1_2[3] = 0u;
-        Stream_ask(a1 + 4, r14_114, 512u, r1_2, 4u);
+        Stream_ask(a1 + 4, r14_116, 512u, r1_2, 4u);
         uint32_t v90 = load32_aligned(r1_2);
         r3_0_0 = (uint8_t)((v90 == 0u) ? 0u : (uint8_t)((v90 == 1u) ? 1u : 2u));
-        goto mmc_story_host_StoryHostHost_write_block_4c4a06f79826ed18_exit;
+        goto c_host_way_WayHost_write_block_b4302b8119c90b07_exit;
     }
     uint8_t r17_2 = r8_21[184];
     if (r17_2 != 1u) {
         r27 = r17_2;
-        goto arm_2_96;
+        goto arm_2_98;
     }
-    r0_0_0_120 = *r8_21;
-    r19_121 = load32_aligned(r8_21 + 168);
-    r21_122 = r19_121 == 1u;
-    uint8_t r4_124 = r8_21[1];
-    uint32_t a1_tr_125 = (uint32_t)load64_aligned(r8_21 + 160);
-    v1 = (uint8_t)(r21_122 ? 24u : 25u);
-    frame_framed(r5_20, (uint8_t)(v1 | 64u), (r4_124 == 0u) ? (a1_tr_125 << 9u) : a1_tr_125);
+    r0_0_0_122 = *r8_21;
+    r19_123 = load32_aligned(r8_21 + 168);
+    r21_124 = r19_123 == 1u;
+    uint8_t r4_126 = r8_21[1];
+    uint32_t a1_tr_127 = (uint32_t)load64_aligned(r8_21 + 160);
+    v1 = (uint8_t)(r21_124 ? 24u : 25u);
+    frame_framed(r5_20, (uint8_t)(v1 | 64u), (r4_126 == 0u) ? (a1_tr_127 << 9u) : a1_tr_127);
     command_read_command(r5_14, r5_20);
     if (*r5_14 != 1u) {
-        goto arm_2_6_130;
+        goto arm_2_6_132;
     }
     r38 = r5_14[4];
     uint32_t r41 = load32_aligned(r5_14 + 8);
-    memcpy(r8_5, a1 + 152, 36);
-    HostState_command(r7_15, r8_5, r38, r41, r7_92);
+    memcpy(r8_4, a1 + 144, 36);
+    HostState_command(r7_15, r8_4, r38, r41, r7_93);
     r3_0_0_2 = load64_aligned(r7_15);
     r3_4_0 = r7_15[9];
     r3_6_0 = r7_15[11];
     r3_7_0 = load16_aligned(r7_15 + 12);
     r3_8_0 = load16_aligned(r7_15 + 14);
-    r4_0_0_152 = a1[96];
-    r4_2_0_153 = a1[97];
+    r4_0_0_154 = a1[88];
+    r4_2_0_155 = a1[89];
     if ((r38 > 63u) || (r7_15[8] != 1u)) {
-        goto arm_2_6_130;
+        goto arm_2_6_132;
     }
-    if (!(((r7_15[10] == 2u) && (a1[160] == 0u)) && (r54_15 <= (uint64_t)r3_7_0))) {
-        goto arm_2_6_130;
+    if (!(((r7_15[10] == 2u) && (a1[152] == 0u)) && (r54_15 <= (uint64_t)r3_7_0))) {
+        goto arm_2_6_132;
     }
-    r28_0_0 = a1[98];
-    r28_2_0 = a1[99];
-    switch (r4_0_0_152) {
+    r28_0_0 = a1[90];
+    r28_2_0 = a1[91];
+    switch (r4_0_0_154) {
     default: {
         trap();
         return;
     }
     case 0u: {
-        goto after_2_230;
+        goto after_2_232;
     }
     case 1u: {
         if (r28_0_0 == 0u) {
-            goto after_2_230;
+            goto after_2_232;
         }
-        r5_0_0_157 = 1u;
-        goto mmc_host_limits_are_within_exit_156;
+        r5_0_0_159 = 1u;
+        goto mmc_host_limits_are_within_exit_158;
     }
     case 2u: {
-        r5_0_0_157 = r28_0_0;
-        goto mmc_host_limits_are_within_exit_156;
+        r5_0_0_159 = r28_0_0;
+        goto mmc_host_limits_are_within_exit_158;
     }
     }
 }
 then_1: {
-    a1[188] = 1u;
+    a1[180] = 1u;
     r0_0_0 = 2u;
-    goto mmc_bus_data_offer_bbb6b08ee4b3c338_exit;
+    goto mmc_bus_data_offer_1bed76fd314cf36e_exit;
 }
-mmc_story_host_StoryHostHost_write_block_4c4a06f79826ed18_exit: {
-    memcpy(r8_3_2, a1 + 152, 36);
-    HostState_block_passed(r7_2_2, r8_3_2, r3_0_0 == 0u);
-    memcpy(a1 + 152, r7_2_2, 36);
+c_host_way_WayHost_write_block_b4302b8119c90b07_exit: {
+    memcpy(r8_5, a1 + 144, 36);
+    HostState_block_passed(r7_2_2, r8_5, r3_0_0 == 0u);
+    memcpy(a1 + 144, r7_2_2, 36);
     r0_0_0 = r3_0_0;
 }
-mmc_bus_data_offer_bbb6b08ee4b3c338_exit: {
+mmc_bus_data_offer_1bed76fd314cf36e_exit: {
     *r4 = 2u;
     r4[1] = r0_0_0;
-    Wire_note(a1 + 96, r4);
+    Wire_note(a1 + 88, r4);
     if (r0_0_0 != 0u) {
         *r2_1 = 1u;
         r2_1[1] = 1u;
         store64_aligned(r2_1 + 8, 1u);
         store32_aligned(r2_1 + 16, 1u);
-        r4_sink_97 = r2_1;
-        goto mmc_transfer_run_Run_write_turn_663556b32f0ce601_exit;
+        r4_sink_99 = r2_1;
+        goto mmc_transfer_run_Run_write_turn_3ed3384e20182063_exit;
     }
-    r31_116 = r16 + 1u;
-    if (r31_116 != load32_aligned(r8_21 + 168)) {
-        goto join_4_12;
+    r31_118 = r16 + 1u;
+    if (r31_118 != load32_aligned(r8_21 + 168)) {
+        goto join_4_11;
     }
     if ((r16 == 0u) || ((r8_21[130] & 1u) != 0)) {
         r1_0_0 = 4u;
         goto mmc_transfer_moves_after_written_exit;
     }
 }
-join_4_12: {
+join_4_11: {
     r1_0_0 = 2u;
 }
 mmc_transfer_moves_after_written_exit: {
@@ -2569,81 +2596,81 @@ mmc_transfer_moves_after_written_exit: {
     store64_aligned(r2_1 + 8, 1u);
     store32_aligned(r2_1 + 16, 1u);
     store32_aligned(r2_1 + 24, r1_0_0);
-    store32_aligned(r2_1 + 28, r31_116);
+    store32_aligned(r2_1 + 28, r31_118);
     memset(r2_1 + 32, 0u, 16);
-    r4_sink_97 = r2_1;
-    goto mmc_transfer_run_Run_write_turn_663556b32f0ce601_exit;
+    r4_sink_99 = r2_1;
+    goto mmc_transfer_run_Run_write_turn_3ed3384e20182063_exit;
 }
-arm_2_96: {
+arm_2_98: {
     store32_aligned(r3_2, (uint32_t)r27);
     store32_aligned(r3_2 + 4, load32_aligned(r8_21 + 188));
     store64_aligned(r3_2 + 8, load64_aligned(r8_21 + 192));
     store64_aligned(r3_2 + 16, load64_aligned(r8_21 + 200));
     steps_step(r4_3, a1, r8_21, r3_2);
-    r4_sink_97 = r4_3;
+    r4_sink_99 = r4_3;
 }
-mmc_transfer_run_Run_write_turn_663556b32f0ce601_exit: {
-    struct of_i8_i8 r38_2 = Run_stand(r8_21, r4_sink_97);
+mmc_transfer_run_Run_write_turn_3ed3384e20182063_exit: {
+    struct of_i8_i8 r38_2 = Run_stand(r8_21, r4_sink_99);
     r27_pn = r38_2;
-    goto mmc_transfer_run_Run_write_on_663556b32f0ce601_exit;
+    goto mmc_transfer_run_Run_write_on_3ed3384e20182063_exit;
 }
-after_2_230: {
-    r5_0_0_157 = 0u;
+after_2_232: {
+    r5_0_0_159 = 0u;
 }
-mmc_host_limits_are_within_exit_156: {
-    v57 = r4_2_0_153 == 0u;
-    if (!((v57 || (r28_2_0 == r4_2_0_153)) && (r5_0_0_157 == r4_0_0_152))) {
-        goto arm_2_6_130;
+mmc_host_limits_are_within_exit_158: {
+    v57 = r4_2_0_155 == 0u;
+    if (!((v57 || (r28_2_0 == r4_2_0_155)) && (r5_0_0_159 == r4_0_0_154))) {
+        goto arm_2_6_132;
     }
-    spec_select_163 = (r38 == 0u) || ((a1[155] & 1u) != 0);
-    switch (r4_0_0_152) {
+    spec_select_165 = (r38 == 0u) || ((a1[147] & 1u) != 0);
+    switch (r4_0_0_154) {
     default: {
         trap();
         return;
     }
     case 0u: {
-        goto after_2_227;
+        goto after_2_229;
     }
     case 1u: {
         if (r28_0_0 == 0u) {
-            goto after_2_227;
+            goto after_2_229;
         }
-        r5_0_0_165 = 1u;
-        goto mmc_host_limits_limited_exit_164;
+        r5_0_0_167 = 1u;
+        goto mmc_host_limits_limited_exit_166;
     }
     case 2u: {
-        r5_0_0_165 = r28_0_0;
-        goto mmc_host_limits_limited_exit_164;
+        r5_0_0_167 = r28_0_0;
+        goto mmc_host_limits_limited_exit_166;
     }
     }
 }
-after_2_227: {
-    r5_0_0_165 = 0u;
+after_2_229: {
+    r5_0_0_167 = 0u;
 }
-mmc_host_limits_limited_exit_164: {
-    a1_166 = (uint8_t)(v57 ? 0u : r28_2_0);
-    r29_167 = (uint8_t)spec_select_163;
-    if (a1[154] != r29_167) {
-        goto then_5_170;
+mmc_host_limits_limited_exit_166: {
+    a1_168 = (uint8_t)(v57 ? 0u : r28_2_0);
+    r29_169 = (uint8_t)spec_select_165;
+    if (a1[146] != r29_169) {
+        goto then_5_172;
     }
-    if (r5_0_0_165 != a1[152]) {
-        goto then_5_170;
+    if (r5_0_0_167 != a1[144]) {
+        goto then_5_172;
     }
-    if (a1_166 == a1[153]) {
-        goto arm_1_171;
+    if (a1_168 == a1[145]) {
+        goto arm_1_173;
     }
 }
-then_5_170: {
-    *r12_13_2 = r5_0_0_165;
-    r12_13_2[1] = a1_166;
-    r12_13_2[2] = r29_167;
-    StoryHostHost_set_ios(a1, r12_13_2);
-    *r12_13_2 = r5_0_0_165;
-    r12_13_2[1] = a1_166;
-    r12_13_2[2] = r29_167;
-    memcpy(a1 + 152, r12_13_2, 3);
+then_5_172: {
+    *r12_13_2 = r5_0_0_167;
+    r12_13_2[1] = a1_168;
+    r12_13_2[2] = r29_169;
+    WayHost_set_ios(a1, r12_13_2);
+    *r12_13_2 = r5_0_0_167;
+    r12_13_2[1] = a1_168;
+    r12_13_2[2] = r29_169;
+    memcpy(a1 + 144, r12_13_2, 3);
 }
-arm_1_171: {
+arm_1_173: {
     store64_aligned(r4_16, r3_0_0_2);
     r4_16[8] = 1u;
     r4_16[9] = r3_4_0;
@@ -2654,13 +2681,13 @@ arm_1_171: {
     uint32_t v59 = (uint32_t)r3_0_0_2;
     uint8_t v61 = (uint8_t)(r3_0_0_2 >> 32u);
     uint8_t v63 = (uint8_t)(r3_0_0_2 >> 40u);
-    uint32_t r1_9_0_172 = load32_aligned(r4_16 + 12);
+    uint32_t r1_7_0_174 = load32_aligned(r4_16 + 12);
     if (*a1 == 0u) {
+        memcpy(r1_10 + 6, r4_16 + 6, 6);
         store32_aligned(r1_10, v59);
         r1_10[4] = v61;
         r1_10[5] = v63;
-        memcpy(r1_10 + 6, r4_16 + 6, 6);
-        store32_aligned(r1_10 + 12, r1_9_0_172);
+        store32_aligned(r1_10 + 12, r1_7_0_174);
         Stream_send_with(r3_11, a1 + 4, 11u, r1_10, r54_15);
         records_heard_by(r4_12, r1_10[8], r3_11);
         r1_0_0_2 = *r4_12;
@@ -2668,18 +2695,18 @@ arm_1_171: {
         if (!((r1_0_0_2 == 0u) && (r1_3_4 == 1u))) {
             uint8_t v67 = r4_12[1];
             memcpy(r5_8, r4_12 + 5, 15);
-            r4_76_1 = r1_3_4;
-            r4_4_1 = v67;
-            sink_phi = r4_137;
+            r0_52_0 = r1_3_4;
+            r0_3_0 = v67;
+            sink_phi = r0_93;
             r1_4_0_35_sink = 0u;
             r4_6_0_sink = 0u;
-            goto c_host_stream_Stream_write_with_bf77df63306dde36_exit;
+            goto mmc_story_host_StoryHostHost_write_with_326b3f3cedcf173d_exit;
         }
         uint8_t r48 = r3_11[18];
         switch (r48) {
         default: {
             r1_4_0_35 = 2u;
-            r4_0_0_shrunk = r8_3;
+            r4_0_0_shrunk = r8_94;
             r4_6_0 = 0u;
             goto c_host_records_moved_by_b4a2e482f58b75af_exit;
         }
@@ -2691,75 +2718,75 @@ arm_1_171: {
         }
         case 1u: {
             r1_4_0_35 = r48;
-            r4_0_0_shrunk = r8_3;
+            r4_0_0_shrunk = r8_94;
             r4_6_0 = 0u;
             goto c_host_records_moved_by_b4a2e482f58b75af_exit;
         }
         }
     }
-    store32_aligned(r1_3_9, v59);
-    r1_3_9[4] = v61;
-    r1_3_9[5] = v63;
-    memcpy(r1_3_9 + 6, r4_16 + 6, 6);
-    store32_aligned(r1_3_9 + 12, r1_9_0_172);
-    store32_aligned(r1_2_8, v59);
-    r1_2_8[4] = v61;
-    r1_2_8[5] = v63;
-    memcpy(r1_2_8 + 6, r4_16 + 6, 6);
-    store32_aligned(r1_2_8 + 12, r1_9_0_172);
+    store32_aligned(r1_9, v59);
+    r1_9[4] = v61;
+    r1_9[5] = v63;
+    memcpy(r1_9 + 6, r4_16 + 6, 6);
+    store32_aligned(r1_9 + 12, r1_7_0_174);
+    store32_aligned(r1_8, v59);
+    r1_8[4] = v61;
+    r1_8[5] = v63;
+    memcpy(r1_8 + 6, r4_16 + 6, 6);
+    store32_aligned(r1_8 + 12, r1_7_0_174);
     if ((load32_aligned(a1 + 84) & UINT32_C(0x480000)) == 0u) {
-        goto arm_2_179;
+        goto arm_2_180;
     }
-    if (!((r1_2_8[10] == 2u) && (r54_15 == (uint64_t)(r1_9_0_172 & 65535u)))) {
-        goto arm_2_179;
+    if (!((r1_8[10] == 2u) && (r54_15 == (uint64_t)(r1_7_0_174 & 65535u)))) {
+        goto arm_2_180;
     }
     struct of_i8_i64 r6_2 = CRegisters_lend(a1 + 4, false, r54_15);
     if (r6_2.f0 != 1u) {
-        goto arm_2_179;
+        goto arm_2_180;
     }
-    Sdhci_move_blocks(r6_2_2, a1 + 4, r1_2_8, r6_2.f1, r54_15);
+    Sdhci_move_blocks(r6_3, a1 + 4, r1_8, r6_2.f1, r54_15);
     CRegisters_give_back(a1 + 4);
-    if (*r6_2_2 != 1u) {
-        goto arm_2_179;
+    if (*r6_3 != 1u) {
+        goto arm_2_180;
     }
-    uint8_t r7_3_0_0 = r6_2_2[8];
-    uint8_t r7_3_4_0 = r6_2_2[9];
-    uint8_t r7_3_6_0 = r6_2_2[12];
-    uint8_t r7_3_9_0 = r6_2_2[32];
-    uint64_t r7_3_11_0 = load64_aligned(r6_2_2 + 40);
-    memcpy(r5_8, r6_2_2 + 13, 15);
+    uint8_t r7_3_0_0 = r6_3[8];
+    uint8_t r7_3_4_0 = r6_3[9];
+    uint8_t r7_3_6_0 = r6_3[12];
+    uint8_t r7_3_9_0 = r6_3[32];
+    uint64_t r7_3_11_0 = load64_aligned(r6_3 + 40);
+    memcpy(r5_8, r6_3 + 13, 15);
     r5_1417_0 = (r7_3_9_0 == 0u) ? r7_3_11_0 : 0u;
     r5_13_0 = 2u;
     r5_1014_0 = r7_3_9_0;
     r5_611_0 = r7_3_6_0;
     r5_4_0 = r7_3_4_0;
-    r5_0_0_4 = r7_3_0_0;
-    goto mmc_sdhci_sdhci_SdhciHost_write_with_83ccbe931bd49116_exit;
+    r5_0_0 = r7_3_0_0;
+    goto mmc_sdhci_sdhci_SdhciHost_write_with_443cfe9b8d0bcf59_exit;
 }
-arm_2_179: {
-    SdhciHost_send(r2_1_7, a1 + 4, r1_3_9);
-    r1_0_0_180 = *r2_1_7;
-    uint8_t r1_3_4_2 = r2_1_7[4];
-    if (r5_91 || ((r1_0_0_180 != 0u) || (r1_3_4_2 != 1u))) {
-        uint8_t v76 = r2_1_7[1];
-        memcpy(r5_8, r2_1_7 + 5, 15);
+arm_2_180: {
+    SdhciHost_send(r2_7, a1 + 4, r1_9);
+    r1_0_0_181 = *r2_7;
+    uint8_t r1_3_4_2 = r2_7[4];
+    if (r5_92 || ((r1_0_0_181 != 0u) || (r1_3_4_2 != 1u))) {
+        uint8_t v76 = r2_7[1];
+        memcpy(r5_8, r2_7 + 5, 15);
         r5_1417_1 = 0u;
         r5_13_1 = 0u; /* any */
         r5_1014_1 = 0u;
         r5_611_1 = r1_3_4_2;
         r5_4_1 = v76;
-        goto mmc_sdhci_sdhci_Sdhci_write_by_port_83ccbe931bd49116_exit;
+        goto mmc_sdhci_sdhci_Sdhci_write_by_port_443cfe9b8d0bcf59_exit;
     }
     uint8_t r48_2 = SdhciHost_write_block(a1 + 4, r56_16);
-    uint8_t v78 = r2_1_7[1];
-    memcpy(r5_8, r2_1_7 + 5, 15);
+    uint8_t v78 = r2_7[1];
+    memcpy(r5_8, r2_7 + 5, 15);
     if (r48_2 != 0u) {
         r5_1417_1 = 0u; /* any */
         r5_13_1 = r48_2;
         r5_1014_1 = 1u;
         r5_611_1 = 1u;
         r5_4_1 = v78;
-        goto mmc_sdhci_sdhci_Sdhci_write_by_port_83ccbe931bd49116_exit;
+        goto mmc_sdhci_sdhci_Sdhci_write_by_port_443cfe9b8d0bcf59_exit;
     }
     r5_1417_1 = 1u;
     r5_13_1 = 0u; /* any */
@@ -2767,92 +2794,94 @@ arm_2_179: {
     r5_611_1 = 1u;
     r5_4_1 = v78;
 }
-mmc_sdhci_sdhci_Sdhci_write_by_port_83ccbe931bd49116_exit: {
+mmc_sdhci_sdhci_Sdhci_write_by_port_443cfe9b8d0bcf59_exit: {
     r5_1417_0 = r5_1417_1;
     r5_13_0 = r5_13_1;
     r5_1014_0 = r5_1014_1;
     r5_611_0 = r5_611_1;
     r5_4_0 = r5_4_1;
-    r5_0_0_4 = r1_0_0_180;
+    r5_0_0 = r1_0_0_181;
 }
-mmc_sdhci_sdhci_SdhciHost_write_with_83ccbe931bd49116_exit: {
-    r4_16_0_r4_16_0_r4_16_0 = r5_13_0;
-    r4_137_0_r4_137_0_r4_137_0 = r5_1014_0;
-    r4_188_0 = r5_1417_0;
-    r4_76_0 = r5_611_0;
-    r4_4_0 = r5_4_0;
-    r4_0_0_181 = r5_0_0_4;
-    goto mmc_story_host_StoryHostHost_write_with_f834243dffccd913_exit;
+mmc_sdhci_sdhci_SdhciHost_write_with_443cfe9b8d0bcf59_exit: {
+    r4_11_0_182 = r5_13_0;
+    r4_96_0 = r5_1014_0;
+    r4_137_0 = r5_1417_0;
+    r4_55_0 = r5_611_0;
+    r4_3_0_183 = r5_4_0;
+    r4_0_0_184 = r5_0_0;
+    goto c_host_way_WayHost_write_with_a85d9c08ec0965ce_exit;
 }
 c_host_records_moved_by_b4a2e482f58b75af_exit: {
     uint8_t v68 = r4_12[1];
     memcpy(r5_8, r4_12 + 5, 15);
-    *r4_137 = (uint8_t)r4_0_0_shrunk;
-    r4_76_1 = 1u;
-    r4_4_1 = v68;
-    sink_phi = r4_16_2;
+    *r0_93 = (uint8_t)r4_0_0_shrunk;
+    r0_52_0 = 1u;
+    r0_3_0 = v68;
+    sink_phi = r0_11;
     r1_4_0_35_sink = r1_4_0_35;
     r4_6_0_sink = r4_6_0;
 }
-c_host_stream_Stream_write_with_bf77df63306dde36_exit: {
+mmc_story_host_StoryHostHost_write_with_326b3f3cedcf173d_exit: {
     *sink_phi = r1_4_0_35_sink;
-    r4_16_0_r4_16_0_r4_16_0 = *r4_16_2;
-    r4_137_0_r4_137_0_r4_137_0 = *r4_137;
-    r4_188_0 = r4_6_0_sink;
-    r4_76_0 = r4_76_1;
-    r4_4_0 = r4_4_1;
-    r4_0_0_181 = r1_0_0_2;
+    uint8_t r0_93_0_r0_93_0_r0_93_0_r0_93_0_r0_93_0_r0_93_0_r0_93_0_r0_93_0_r0_93_0_r0_93_0_r0_93_0_r0_93_0_r0_93_0_r0_93_0_r0_93_0_r0_93_0_r0_93_0_r0_93_0_r0_93_0_r0_93_0_r0_93_0_r0_93_0_r0_93_0_r0_93_0_r0_93_0_r0_93_0_r0_93_0_r0_93_0_r0_93_0_r0_93_0_r0_93_0_r0_93_0 = *r0_93;
+    uint8_t r0_11_0_r0_11_0_r0_11_0_r0_11_0_r0_11_0_r0_11_0_r0_11_0_r0_11_0_r0_11_0_r0_11_0_r0_11_0_r0_11_0_r0_11_0_r0_11_0_r0_11_0_r0_11_0_r0_11_0_r0_11_0_r0_11_0_r0_11_0_r0_11_0_r0_11_0_r0_11_0_r0_11_0_r0_11_0_r0_11_0_r0_11_0_r0_11_0_r0_11_0_r0_11_0_r0_11_0_r0_11_0 = *r0_11;
+    r4_11_0_182 = r0_11_0_r0_11_0_r0_11_0_r0_11_0_r0_11_0_r0_11_0_r0_11_0_r0_11_0_r0_11_0_r0_11_0_r0_11_0_r0_11_0_r0_11_0_r0_11_0_r0_11_0_r0_11_0_r0_11_0_r0_11_0_r0_11_0_r0_11_0_r0_11_0_r0_11_0_r0_11_0_r0_11_0_r0_11_0_r0_11_0_r0_11_0_r0_11_0_r0_11_0_r0_11_0_r0_11_0_r0_11_0;
+    r4_96_0 = r0_93_0_r0_93_0_r0_93_0_r0_93_0_r0_93_0_r0_93_0_r0_93_0_r0_93_0_r0_93_0_r0_93_0_r0_93_0_r0_93_0_r0_93_0_r0_93_0_r0_93_0_r0_93_0_r0_93_0_r0_93_0_r0_93_0_r0_93_0_r0_93_0_r0_93_0_r0_93_0_r0_93_0_r0_93_0_r0_93_0_r0_93_0_r0_93_0_r0_93_0_r0_93_0_r0_93_0_r0_93_0;
+    r4_137_0 = r4_6_0_sink;
+    r4_55_0 = r0_52_0;
+    r4_3_0_183 = r0_3_0;
+    r4_0_0_184 = r1_0_0_2;
 }
-mmc_story_host_StoryHostHost_write_with_f834243dffccd913_exit: {
-    memcpy(r18_2, a1 + 152, 36);
-    HostState_sent(r17_3, r18_2, r4_16, r4_0_0_181 == 0u);
-    uint8_t r1_3_0_182 = r17_3[3];
-    uint8_t r1_5_0_183 = r17_3[4];
-    r1_74_0_184 = load16_aligned(r17_3 + 6);
-    r1_147_0_185 = r17_3[16];
-    r1_168_0_186 = load32_aligned(r17_3 + 20);
-    r1_18_0_187 = load32_aligned(r17_3 + 24);
-    r1_20_0_188 = load32_aligned(r17_3 + 28);
-    r1_22_0_189 = load32_aligned(r17_3 + 32);
-    v80 = r4_137_0_r4_137_0_r4_137_0 == 1u;
+c_host_way_WayHost_write_with_a85d9c08ec0965ce_exit: {
+    memcpy(r18_2, a1 + 144, 36);
+    HostState_sent(r17_3, r18_2, r4_16, r4_0_0_184 == 0u);
+    uint8_t r1_3_0_185 = r17_3[3];
+    uint8_t r1_5_0_7 = r17_3[4];
+    r1_74_0_186 = load16_aligned(r17_3 + 6);
+    r1_147_0_187 = r17_3[16];
+    r1_168_0_188 = load32_aligned(r17_3 + 20);
+    r1_18_0_189 = load32_aligned(r17_3 + 24);
+    r1_20_0_190 = load32_aligned(r17_3 + 28);
+    r1_22_0_191 = load32_aligned(r17_3 + 32);
+    v80 = r4_96_0 == 1u;
     if (v80) {
         memcpy(r8_0_4, r17_3, 3);
-        r8_13_0_195 = 0u; /* any */
-        r8_11_0_196 = 0u; /* any */
-        r8_9_0_197 = 0u;
-        r8_5_0_198 = (uint8_t)(r1_5_0_183 & 1u);
-        r8_3_0_199 = (uint8_t)(r1_3_0_182 & 1u);
+        r8_13_0_198 = 0u; /* any */
+        r8_11_0_199 = 0u; /* any */
+        r8_9_0_200 = 0u;
+        r8_5_0_201 = (uint8_t)(r1_5_0_7 & 1u);
+        r8_3_0_202 = (uint8_t)(r1_3_0_185 & 1u);
         goto mmc_host_told_HostState_blocks_passed_b4a2e482f58b75af_exit;
     }
-    uint16_t r1_12_0_190 = load16_aligned(r17_3 + 12);
-    uint16_t r1_105_0_191 = load16_aligned(r17_3 + 10);
+    uint16_t r1_12_0_192 = load16_aligned(r17_3 + 12);
+    uint16_t r1_105_0_193 = load16_aligned(r17_3 + 10);
     store16_aligned(r10_6, (uint16_t)r17_3[8]);
-    store16_aligned(r10_6 + 2, r1_105_0_191);
-    store16_aligned(r10_6 + 4, r1_12_0_190);
-    Data_less_by(r9_5, r10_6, r4_188_0);
+    store16_aligned(r10_6 + 2, r1_105_0_193);
+    store16_aligned(r10_6 + 4, r1_12_0_192);
+    Data_less_by(r9_5, r10_6, r4_137_0);
     memcpy(r8_0_4, r17_3, 3);
-    r8_13_0_195 = load16_aligned(r9_5 + 4);
-    r8_11_0_196 = load16_aligned(r9_5 + 2);
-    r8_9_0_197 = (uint16_t)*r9_5;
-    r8_5_0_198 = r1_5_0_183;
-    r8_3_0_199 = r1_3_0_182;
+    r8_13_0_198 = load16_aligned(r9_5 + 4);
+    r8_11_0_199 = load16_aligned(r9_5 + 2);
+    r8_9_0_200 = (uint16_t)*r9_5;
+    r8_5_0_201 = r1_5_0_7;
+    r8_3_0_202 = r1_3_0_185;
 }
 mmc_host_told_HostState_blocks_passed_b4a2e482f58b75af_exit: {
-    memcpy(a1 + 152, r8_0_4, 3);
-    a1[155] = r8_3_0_199;
-    a1[156] = r8_5_0_198;
-    store16(a1 + 158, r1_74_0_184);
-    store16(a1 + 160, r8_9_0_197);
-    store16(a1 + 162, r8_11_0_196);
-    store16(a1 + 164, r8_13_0_195);
-    store32(a1 + 168, (uint32_t)r1_147_0_185);
-    store32(a1 + 172, r1_168_0_186);
-    store32(a1 + 176, r1_18_0_187);
-    store32(a1 + 180, r1_20_0_188);
-    store32(a1 + 184, r1_22_0_189);
-    *r21 = r4_0_0_181;
-    r21[1] = r4_4_0;
-    r21[4] = r4_76_0;
+    memcpy(a1 + 144, r8_0_4, 3);
+    a1[147] = r8_3_0_202;
+    a1[148] = r8_5_0_201;
+    store16(a1 + 150, r1_74_0_186);
+    store16(a1 + 152, r8_9_0_200);
+    store16(a1 + 154, r8_11_0_199);
+    store16(a1 + 156, r8_13_0_198);
+    store32(a1 + 160, (uint32_t)r1_147_0_187);
+    store32(a1 + 164, r1_168_0_188);
+    store32(a1 + 168, r1_18_0_189);
+    store32(a1 + 172, r1_20_0_190);
+    store32(a1 + 176, r1_22_0_191);
+    *r21 = r4_0_0_184;
+    r21[1] = r4_3_0_183;
+    r21[4] = r4_55_0;
     memcpy(r21 + 5, r5_8, 15);
     replies_spelled(r7_17, r4_16, r21);
     memcpy(r24 + 1, r5_20, 6);
@@ -2861,114 +2890,114 @@ mmc_host_told_HostState_blocks_passed_b4a2e482f58b75af_exit: {
     v83 = *r7_17;
     r24[8] = v83;
     memcpy(r24 + 9, r7_17 + 1, 17);
-    Wire_note(a1 + 96, r24);
+    Wire_note(a1 + 88, r24);
     if (v80) {
         r10_33_013 = 1u;
-        r10_0_012 = r4_16_0_r4_16_0_r4_16_0;
-        goto then_5_202;
+        r10_0_012 = r4_11_0_182;
+        goto then_5_205;
     }
-    if (r4_188_0 == 0u) {
+    if (r4_137_0 == 0u) {
         goto mmc_host_noting_note_written_exit;
     }
-    r10_33_013 = r4_188_0;
+    r10_33_013 = r4_137_0;
     r10_0_012 = 0u;
 }
-then_5_202: {
-    uint64_t r33_203 = r10_33_013 + UINT64_C(0xffffffffffffffff);
-    store64_aligned(a1 + 144, uadd_sat64(r33_203, uadd_sat64(r33_203, load64_aligned(a1 + 144))));
+then_5_205: {
+    uint64_t r33_206 = r10_33_013 + UINT64_C(0xffffffffffffffff);
+    store64_aligned(a1 + 136, uadd_sat64(r33_206, uadd_sat64(r33_206, load64_aligned(a1 + 136))));
     *r17_4 = 2u;
     r17_4[1] = r10_0_012;
-    Wire_note(a1 + 96, r17_4);
+    Wire_note(a1 + 88, r17_4);
 }
 mmc_host_noting_note_written_exit: {
     r86_sink = r7_17 + 1;
     r13_0_0_0 = v83;
     r13_5_0 = v80;
-    r13_91_0 = r4_188_0;
-    goto mmc_bus_together_ask_writing_663556b32f0ce601_exit;
+    r13_91_0 = r4_137_0;
+    goto mmc_bus_together_ask_writing_3ed3384e20182063_exit;
 }
-arm_2_6_130: {
-    HostBusBus_begin(r27_2, a1, r5_20, 1u, r7_92);
+arm_2_6_132: {
+    HostBusBus_begin(r27_2, a1, r5_20, 1u, r7_93);
     r86_sink = r27_2 + 1;
     r13_0_0_0 = *r27_2;
     r13_5_0 = false;
     r13_91_0 = 0u;
 }
-mmc_bus_together_ask_writing_663556b32f0ce601_exit: {
+mmc_bus_together_ask_writing_3ed3384e20182063_exit: {
     memcpy(r3_2_19, r86_sink, 17);
     *r1_18 = r13_0_0_0;
     memcpy(r1_18 + 1, r3_2_19, 17);
     host_response_in(r7_7, r1_18, v1);
-    uint8_t r0_0_0_5_131 = *r7_7;
-    uint32_t r0_0_4_132 = load32_aligned(r7_7 + 4);
-    if (r0_0_0_5_131 != 0u) {
+    uint8_t r0_0_0_5_133 = *r7_7;
+    uint32_t r0_0_4_134 = load32_aligned(r7_7 + 4);
+    if (r0_0_0_5_133 != 0u) {
         if (r13_5_0) {
-            r4_4_0_137 = 1u;
-            r4_0_0_138 = 2u;
-            goto mmc_transfer_run_Run_stand_exit_136;
+            r4_4_0_139 = 1u;
+            r4_0_0_140 = 2u;
+            goto mmc_transfer_run_Run_stand_exit_138;
         }
         r0_3_0_1619 = 0u;
-        goto arm_6_133;
+        goto arm_6_135;
     }
     if (r13_5_0) {
-        r4_4_0_137 = 1u;
-        r4_0_0_138 = 2u;
-        goto mmc_transfer_run_Run_stand_exit_136;
+        r4_4_0_139 = 1u;
+        r4_0_0_140 = 2u;
+        goto mmc_transfer_run_Run_stand_exit_138;
     }
-    if (!((r0_0_4_132 & ((r0_0_0_120 == 0u) ? UINT32_C(0xfdf9a000) : UINT32_C(0xfdf9a080))) == 0u)) {
+    if (!((r0_0_4_134 & ((r0_0_0_122 == 0u) ? UINT32_C(0xfdf9a000) : UINT32_C(0xfdf9a080))) == 0u)) {
         r0_3_0_1619 = 2u;
-        goto arm_6_133;
+        goto arm_6_135;
     }
-    r28_146 = (uint32_t)r13_91_0;
-    if (r28_146 == 0u) {
+    r28_148 = (uint32_t)r13_91_0;
+    if (r28_148 == 0u) {
         r13_5_0_ph = 0u;
         r13_7_0_ph = 0u;
-        goto arm_5_150;
+        goto arm_5_152;
     }
     r13_5_0_ph = 1u;
-    r13_7_0_ph = ((r19_121 == r28_146) && (r21_122 || ((r8_21[130] & 1u) != 0))) ? 4u : 2u;
-    goto arm_5_150;
+    r13_7_0_ph = ((r19_123 == r28_148) && (r21_124 || ((r8_21[130] & 1u) != 0))) ? 4u : 2u;
+    goto arm_5_152;
 }
-arm_6_133: {
-    r4_4_0_137 = (uint8_t)((r13_91_0 == 0u) ? r0_3_0_1619 : 1u);
-    r4_0_0_138 = 2u;
-    goto mmc_transfer_run_Run_stand_exit_136;
+arm_6_135: {
+    r4_4_0_139 = (uint8_t)((r13_91_0 == 0u) ? r0_3_0_1619 : 1u);
+    r4_0_0_140 = 2u;
+    goto mmc_transfer_run_Run_stand_exit_138;
 }
-arm_5_150: {
+arm_5_152: {
     store32_aligned(r8_21 + 176, r13_5_0_ph);
     store32_aligned(r8_21 + 180, 0u);
     store32_aligned(r8_21 + 184, r13_7_0_ph);
-    store32_aligned(r8_21 + 188, r28_146);
+    store32_aligned(r8_21 + 188, r28_148);
     memset(r8_21 + 192, 0u, 16);
-    r4_4_0_137 = 0u; /* any */
-    r4_0_0_138 = 0u;
+    r4_4_0_139 = 0u; /* any */
+    r4_0_0_140 = 0u;
 }
-mmc_transfer_run_Run_stand_exit_136: {
-    struct of_i8_i8 r43_fca_0_insert_139 = (struct of_i8_i8){r4_0_0_138, 0};
-    struct of_i8_i8 r43_fca_1_insert_140 = (struct of_i8_i8){r43_fca_0_insert_139.f0, r4_4_0_137};
-    r27_pn = r43_fca_1_insert_140;
+mmc_transfer_run_Run_stand_exit_138: {
+    struct of_i8_i8 r43_fca_0_insert_141 = (struct of_i8_i8){r4_0_0_140, 0};
+    struct of_i8_i8 r43_fca_1_insert_142 = (struct of_i8_i8){r43_fca_0_insert_141.f0, r4_4_0_139};
+    r27_pn = r43_fca_1_insert_142;
 }
-mmc_transfer_run_Run_write_on_663556b32f0ce601_exit: {
+mmc_transfer_run_Run_write_on_3ed3384e20182063_exit: {
     switch (r27_pn.f0) {
     default: {
         goto default_unreachable;
     }
     case 0u: {
-        goto loop_2_93;
+        goto loop_2_95;
     }
     case 1u: {
         uint8_t r19_2_0 = r8_21[144];
         uint8_t r19_3_0 = r8_21[145];
         uint8_t r19_4_0 = r8_21[146];
         memcpy(r0_3_2_22, r8_21, 144);
-        r0_0_0_99 = 0u;
+        r0_0_0_101 = 0u;
         sink53_phi = r0_6_23;
         r22_4_0_sink = r19_2_0;
         sink52_phi = r0_8_24;
         r33_sink = r19_3_0;
         sink51_phi = r0_10_25;
-        sink_100 = r19_4_0;
-        goto kelifandro_request_write_bbb6b08ee4b3c338_exit;
+        sink_102 = r19_4_0;
+        goto kelifandro_request_write_1bed76fd314cf36e_exit;
     }
     case 2u: {
         uint8_t r22_2_0 = r8_21[144];
@@ -2977,34 +3006,34 @@ mmc_transfer_run_Run_write_on_663556b32f0ce601_exit: {
         memcpy(r0_3_2_22, r8_21, 144);
         *r0_6_23 = r22_2_0;
         *r0_8_24 = r22_3_0;
-        r0_0_0_99 = 1u;
+        r0_0_0_101 = 1u;
         sink53_phi = r0_10_25;
         r22_4_0_sink = r22_4_0;
         sink52_phi = r0_124_26;
         r33_sink = r27_pn.f1;
         sink51_phi = r0_13_27;
-        sink_100 = 0u;
-        goto kelifandro_request_write_bbb6b08ee4b3c338_exit;
+        sink_102 = 0u;
+        goto kelifandro_request_write_1bed76fd314cf36e_exit;
     }
     }
 }
-kelifandro_request_write_bbb6b08ee4b3c338_exit: {
+kelifandro_request_write_1bed76fd314cf36e_exit: {
     *sink53_phi = r22_4_0_sink;
     *sink52_phi = r33_sink;
-    *sink51_phi = sink_100;
-    uint8_t r0_6_23_0_r0_6_23_0_r0_6_23_0_r0_6_23_0_r0_6_23_0_r0_6_23_0_r0_6_23_0_r0_6_23_0_r0_6_23_0_r0_6_0_r0_6_0_r0_6_0_r0_6_0_r0_6_16_102 = *r0_6_23;
-    uint8_t r0_8_24_0_r0_8_24_0_r0_8_24_0_r0_8_24_0_r0_8_24_0_r0_8_24_0_r0_8_24_0_r0_8_24_0_r0_8_24_0_r0_8_0_r0_8_0_r0_8_0_r0_8_0_r0_8_16_103 = *r0_8_24;
-    uint8_t r0_10_25_0_r0_10_25_0_r0_10_25_0_r0_10_25_0_r0_10_25_0_r0_10_25_0_r0_10_25_0_r0_10_25_0_r0_10_25_0_r0_10_0_r0_10_0_r0_10_0_r0_10_0_r0_10_16_104 = *r0_10_25;
-    uint8_t r0_124_26_0_r0_124_26_0_r0_124_26_0_r0_124_26_0_r0_124_26_0_r0_124_26_0_r0_124_26_0_r0_124_26_0_r0_124_26_0_r0_124_0_r0_124_0_r0_124_0_r0_124_0_r0_124_16_105 = *r0_124_26;
-    uint8_t r0_13_27_0_r0_13_27_0_r0_13_27_0_r0_13_27_0_r0_13_27_0_r0_13_27_0_r0_13_27_0_r0_13_27_0_r0_13_27_0_r0_13_0_r0_13_0_r0_13_0_r0_13_0_r0_13_16_106 = *r0_13_27;
-    store128_aligned(r8_4, u128_of(0u, r0_0_0_99));
-    memcpy(r8_4 + 16, r0_3_2_22, 144);
-    r8_4[160] = r0_6_23_0_r0_6_23_0_r0_6_23_0_r0_6_23_0_r0_6_23_0_r0_6_23_0_r0_6_23_0_r0_6_23_0_r0_6_23_0_r0_6_0_r0_6_0_r0_6_0_r0_6_0_r0_6_16_102;
-    r8_4[161] = r0_8_24_0_r0_8_24_0_r0_8_24_0_r0_8_24_0_r0_8_24_0_r0_8_24_0_r0_8_24_0_r0_8_24_0_r0_8_24_0_r0_8_0_r0_8_0_r0_8_0_r0_8_0_r0_8_16_103;
-    r8_4[162] = r0_10_25_0_r0_10_25_0_r0_10_25_0_r0_10_25_0_r0_10_25_0_r0_10_25_0_r0_10_25_0_r0_10_25_0_r0_10_25_0_r0_10_0_r0_10_0_r0_10_0_r0_10_0_r0_10_16_104;
-    r8_4[176] = r0_124_26_0_r0_124_26_0_r0_124_26_0_r0_124_26_0_r0_124_26_0_r0_124_26_0_r0_124_26_0_r0_124_26_0_r0_124_26_0_r0_124_0_r0_124_0_r0_124_0_r0_124_0_r0_124_16_105;
-    r8_4[177] = r0_13_27_0_r0_13_27_0_r0_13_27_0_r0_13_27_0_r0_13_27_0_r0_13_27_0_r0_13_27_0_r0_13_27_0_r0_13_27_0_r0_13_0_r0_13_0_r0_13_0_r0_13_0_r0_13_16_106;
-    goto kelifandro_request_CRequestRequest_run_bbb6b08ee4b3c338_exit;
+    *sink51_phi = sink_102;
+    uint8_t r0_6_23_0_r0_6_23_0_r0_6_23_0_r0_6_23_0_r0_6_23_0_r0_6_23_0_r0_6_23_0_r0_6_23_0_r0_6_23_0_r0_6_0_r0_6_0_r0_6_0_r0_6_0_r0_6_16_104 = *r0_6_23;
+    uint8_t r0_8_24_0_r0_8_24_0_r0_8_24_0_r0_8_24_0_r0_8_24_0_r0_8_24_0_r0_8_24_0_r0_8_24_0_r0_8_24_0_r0_8_0_r0_8_0_r0_8_0_r0_8_0_r0_8_16_105 = *r0_8_24;
+    uint8_t r0_10_25_0_r0_10_25_0_r0_10_25_0_r0_10_25_0_r0_10_25_0_r0_10_25_0_r0_10_25_0_r0_10_25_0_r0_10_25_0_r0_10_0_r0_10_0_r0_10_0_r0_10_0_r0_10_16_106 = *r0_10_25;
+    uint8_t r0_124_26_0_r0_124_26_0_r0_124_26_0_r0_124_26_0_r0_124_26_0_r0_124_26_0_r0_124_26_0_r0_124_26_0_r0_124_26_0_r0_124_0_r0_124_0_r0_124_0_r0_124_0_r0_124_16_107 = *r0_124_26;
+    uint8_t r0_13_27_0_r0_13_27_0_r0_13_27_0_r0_13_27_0_r0_13_27_0_r0_13_27_0_r0_13_27_0_r0_13_27_0_r0_13_27_0_r0_13_0_r0_13_0_r0_13_0_r0_13_0_r0_13_16_108 = *r0_13_27;
+    store128_aligned(r8_3, u128_of(0u, r0_0_0_101));
+    memcpy(r8_3 + 16, r0_3_2_22, 144);
+    r8_3[160] = r0_6_23_0_r0_6_23_0_r0_6_23_0_r0_6_23_0_r0_6_23_0_r0_6_23_0_r0_6_23_0_r0_6_23_0_r0_6_23_0_r0_6_0_r0_6_0_r0_6_0_r0_6_0_r0_6_16_104;
+    r8_3[161] = r0_8_24_0_r0_8_24_0_r0_8_24_0_r0_8_24_0_r0_8_24_0_r0_8_24_0_r0_8_24_0_r0_8_24_0_r0_8_24_0_r0_8_0_r0_8_0_r0_8_0_r0_8_0_r0_8_16_105;
+    r8_3[162] = r0_10_25_0_r0_10_25_0_r0_10_25_0_r0_10_25_0_r0_10_25_0_r0_10_25_0_r0_10_25_0_r0_10_25_0_r0_10_25_0_r0_10_0_r0_10_0_r0_10_0_r0_10_0_r0_10_16_106;
+    r8_3[176] = r0_124_26_0_r0_124_26_0_r0_124_26_0_r0_124_26_0_r0_124_26_0_r0_124_26_0_r0_124_26_0_r0_124_26_0_r0_124_26_0_r0_124_0_r0_124_0_r0_124_0_r0_124_0_r0_124_16_107;
+    r8_3[177] = r0_13_27_0_r0_13_27_0_r0_13_27_0_r0_13_27_0_r0_13_27_0_r0_13_27_0_r0_13_27_0_r0_13_27_0_r0_13_27_0_r0_13_0_r0_13_0_r0_13_0_r0_13_0_r0_13_16_108;
+    goto kelifandro_request_CRequestRequest_run_1bed76fd314cf36e_exit;
 }
 loop_2: {
     uint8_t r16_2 = r8_2[176];
@@ -3019,7 +3048,7 @@ loop_2: {
             *r2_2 = 1u;
             r2_2[1] = 1u;
             r4_sink = r2_2;
-            goto mmc_transfer_run_Run_read_turn_1e3c51e583aca15a_exit;
+            goto mmc_transfer_run_Run_read_turn_2555c61120d04c34_exit;
         }
         uint32_t r38_3 = r17_5 + 1u;
         uint32_t r10 = load32_aligned(r8_2 + 168);
@@ -3031,7 +3060,7 @@ loop_2: {
         store32_aligned(r2_2 + 20, r38_3);
         store32_aligned(r2_2 + 24, r12 ? 3u : 0u);
         r4_sink = r2_2;
-        goto mmc_transfer_run_Run_read_turn_1e3c51e583aca15a_exit;
+        goto mmc_transfer_run_Run_read_turn_2555c61120d04c34_exit;
     }
     uint8_t r19 = r8_2[184];
     if (r19 != 1u) {
@@ -3051,21 +3080,21 @@ loop_2: {
     }
     r34_2 = r5_3[4];
     uint32_t r37_2 = load32_aligned(r5_3 + 8);
-    memcpy(r7_3, a1 + 152, 36);
+    memcpy(r7_3, a1 + 144, 36);
     HostState_command(r3_3, r7_3, r34_2, r37_2, r7_2);
-    r4_0_0 = a1[96];
-    r4_2_0 = a1[97];
+    r4_0_0 = a1[88];
+    r4_2_0 = a1[89];
     if (r34_2 > 63u) {
         goto arm_2_6;
     }
-    if (!((r3_3[10] == 1u) && (a1[160] == 0u))) {
+    if (!((r3_3[10] == 1u) && (a1[152] == 0u))) {
         goto arm_2_6;
     }
     if (!((load16_aligned(r3_3 + 12) == 512u) && (r37 <= (uint64_t)load16_aligned(r3_3 + 14)))) {
         goto arm_2_6;
     }
-    r24_0_0 = a1[98];
-    r24_2_0 = a1[99];
+    r24_0_0 = a1[90];
+    r24_2_0 = a1[91];
     switch (r4_0_0) {
     default: {
         trap();
@@ -3078,11 +3107,11 @@ loop_2: {
         if (r24_0_0 == 0u) {
             goto after_2;
         }
-        r5_0_0 = 1u;
+        r5_0_0_2 = 1u;
         goto mmc_host_limits_are_within_exit;
     }
     case 2u: {
-        r5_0_0 = r24_0_0;
+        r5_0_0_2 = r24_0_0;
         goto mmc_host_limits_are_within_exit;
     }
     }
@@ -3095,20 +3124,20 @@ arm_2_2: {
     steps_step(r4_4, a1, r8_2, r3_4);
     r4_sink = r4_4;
 }
-mmc_transfer_run_Run_read_turn_1e3c51e583aca15a_exit: {
+mmc_transfer_run_Run_read_turn_2555c61120d04c34_exit: {
     struct of_i8_i8 r40 = Run_stand(r8_2, r4_sink);
     r30_pn = r40;
-    goto mmc_transfer_run_Run_read_on_1e3c51e583aca15a_exit;
+    goto mmc_transfer_run_Run_read_on_2555c61120d04c34_exit;
 }
 after_2: {
-    r5_0_0 = 0u;
+    r5_0_0_2 = 0u;
 }
 mmc_host_limits_are_within_exit: {
     v18 = r4_2_0 == 0u;
-    if (!((v18 || (r24_2_0 == r4_2_0)) && (r5_0_0 == r4_0_0))) {
+    if (!((v18 || (r24_2_0 == r4_2_0)) && (r5_0_0_2 == r4_0_0))) {
         goto arm_2_6;
     }
-    spec_select = (r34_2 == 0u) || ((a1[155] & 1u) != 0);
+    spec_select = (r34_2 == 0u) || ((a1[147] & 1u) != 0);
     switch (r4_0_0) {
     default: {
         trap();
@@ -3121,53 +3150,53 @@ mmc_host_limits_are_within_exit: {
         if (r24_0_0 == 0u) {
             goto after_2_2;
         }
-        r5_0_0_2 = 1u;
+        r5_0_0_3 = 1u;
         goto mmc_host_limits_limited_exit;
     }
     case 2u: {
-        r5_0_0_2 = r24_0_0;
+        r5_0_0_3 = r24_0_0;
         goto mmc_host_limits_limited_exit;
     }
     }
 }
 after_2_2: {
-    r5_0_0_2 = 0u;
+    r5_0_0_3 = 0u;
 }
 mmc_host_limits_limited_exit: {
     a1_2 = (uint8_t)(v18 ? 0u : r24_2_0);
     r29_2 = (uint8_t)spec_select;
-    if (a1[154] != r29_2) {
+    if (a1[146] != r29_2) {
         goto then_5;
     }
-    if (r5_0_0_2 != a1[152]) {
+    if (r5_0_0_3 != a1[144]) {
         goto then_5;
     }
-    if (a1_2 == a1[153]) {
+    if (a1_2 == a1[145]) {
         goto arm_1;
     }
 }
 then_5: {
-    *r12_2 = r5_0_0_2;
+    *r12_2 = r5_0_0_3;
     r12_2[1] = a1_2;
     r12_2[2] = r29_2;
-    StoryHostHost_set_ios(a1, r12_2);
-    *r12_2 = r5_0_0_2;
+    WayHost_set_ios(a1, r12_2);
+    *r12_2 = r5_0_0_3;
     r12_2[1] = a1_2;
     r12_2[2] = r29_2;
-    memcpy(a1 + 152, r12_2, 3);
+    memcpy(a1 + 144, r12_2, 3);
 }
 arm_1: {
     memcpy(r4_5, r3_3, 16);
     uint32_t r1_0_0_3 = load32_aligned(r4_5);
-    uint8_t r1_6_0 = r4_5[4];
-    uint8_t r1_7_0 = r4_5[5];
-    uint32_t r1_9_0 = load32_aligned(r4_5 + 12);
+    uint8_t r1_4_0 = r4_5[4];
+    uint8_t r1_5_0 = r4_5[5];
+    uint32_t r1_7_0 = load32_aligned(r4_5 + 12);
     if (*a1 == 0u) {
-        store32_aligned(r1_3, r1_0_0_3);
-        r1_3[4] = r1_6_0;
-        r1_3[5] = r1_7_0;
         memcpy(r1_3 + 6, r4_5 + 6, 6);
-        store32_aligned(r1_3 + 12, r1_9_0);
+        store32_aligned(r1_3, r1_0_0_3);
+        r1_3[4] = r1_4_0;
+        r1_3[5] = r1_5_0;
+        store32_aligned(r1_3 + 12, r1_7_0);
         Stream_send_with(r3_5, a1 + 4, 10u, r1_3, r37);
         records_heard_by(r4_6, r1_3[8], r3_5);
         uint8_t r37_3 = r3_5[18];
@@ -3196,27 +3225,27 @@ arm_1: {
         }
         }
     }
-    store32_aligned(r1_3_2, r1_0_0_3);
-    r1_3_2[4] = r1_6_0;
-    r1_3_2[5] = r1_7_0;
-    memcpy(r1_3_2 + 6, r4_5 + 6, 6);
-    store32_aligned(r1_3_2 + 12, r1_9_0);
-    store32_aligned(r1_2_2, r1_0_0_3);
-    r1_2_2[4] = r1_6_0;
-    r1_2_2[5] = r1_7_0;
-    memcpy(r1_2_2 + 6, r4_5 + 6, 6);
-    store32_aligned(r1_2_2 + 12, r1_9_0);
+    store32_aligned(r1_4, r1_0_0_3);
+    r1_4[4] = r1_4_0;
+    r1_4[5] = r1_5_0;
+    memcpy(r1_4 + 6, r4_5 + 6, 6);
+    store32_aligned(r1_4 + 12, r1_7_0);
+    store32_aligned(r1_5, r1_0_0_3);
+    r1_5[4] = r1_4_0;
+    r1_5[5] = r1_5_0;
+    memcpy(r1_5 + 6, r4_5 + 6, 6);
+    store32_aligned(r1_5 + 12, r1_7_0);
     if ((load32_aligned(a1 + 84) & UINT32_C(0x480000)) == 0u) {
         goto arm_2_3;
     }
-    if (!(((r1_2_2[10] == 1u) && ((uint32_t)(r1_9_0 & 65535u) == 512u)) && (r37 == (uint64_t)(r1_9_0 >> 16u)))) {
+    if (!(((r1_5[10] == 1u) && ((uint32_t)(r1_7_0 & 65535u) == 512u)) && (r37 == (uint64_t)(r1_7_0 >> 16u)))) {
         goto arm_2_3;
     }
     struct of_i8_i64 r3_6 = CRegisters_lend(a1 + 4, true, r37);
     if (r3_6.f0 != 1u) {
         goto arm_2_3;
     }
-    Sdhci_move_blocks(r18_3, a1 + 4, r1_2_2, r3_6.f1, r37);
+    Sdhci_move_blocks(r18_3, a1 + 4, r1_5, r3_6.f1, r37);
     if (*r18_3 != 1u) {
         CRegisters_give_back(a1 + 4);
         goto arm_2_3;
@@ -3225,7 +3254,7 @@ arm_1: {
         goto arm_1_2;
     }
     CRegisters_give_back(a1 + 4);
-    io_read_full(load32_aligned(a1 + 4), r39, r15);
+    io_read_full(load32_aligned(a1 + 4), r39, r15_11);
 }
 arm_1_2: {
     CRegisters_give_back(a1 + 4);
@@ -3242,24 +3271,24 @@ arm_1_2: {
     r6_87_0 = r3_5_4_4_0;
     r6_5_0 = r3_5_4_2_0;
     r6_0_0 = r3_5_4_0_0;
-    goto mmc_sdhci_sdhci_SdhciHost_read_with_be3681d7e494b24f_exit;
+    goto mmc_sdhci_sdhci_SdhciHost_read_with_3ddda61d839eace2_exit;
 }
 arm_2_3: {
-    SdhciHost_send(r2_1_2, a1 + 4, r1_3_2);
-    uint8_t r1_0_0_4 = *r2_1_2;
+    SdhciHost_send(r2_3, a1 + 4, r1_4);
+    uint8_t r1_0_0_4 = *r2_3;
     if (r1_0_0_4 != 0u) {
         r6_1813_1 = 0u;
         r6_17_1 = 0u; /* any */
         r6_1410_1 = 0u;
         r6_0_1 = r1_0_0_4;
-        goto mmc_sdhci_sdhci_Sdhci_read_by_port_be3681d7e494b24f_exit;
+        goto mmc_sdhci_sdhci_Sdhci_read_by_port_3ddda61d839eace2_exit;
     }
     if (r5) {
         r6_1813_1 = 0u;
         r6_17_1 = 0u; /* any */
         r6_1410_1 = 0u;
         r6_0_1 = 0u;
-        goto mmc_sdhci_sdhci_Sdhci_read_by_port_be3681d7e494b24f_exit;
+        goto mmc_sdhci_sdhci_Sdhci_read_by_port_3ddda61d839eace2_exit;
     }
     r4_042 = 0u;
 }
@@ -3270,7 +3299,7 @@ join_8: {
         r6_17_1 = r59;
         r6_1410_1 = 1u;
         r6_0_1 = 0u;
-        goto mmc_sdhci_sdhci_Sdhci_read_by_port_be3681d7e494b24f_exit;
+        goto mmc_sdhci_sdhci_Sdhci_read_by_port_3ddda61d839eace2_exit;
     }
     uint64_t r82 = r4_042 + 1u;
     if (r82 == r37) {
@@ -3278,15 +3307,15 @@ join_8: {
         r6_17_1 = 0u;
         r6_1410_1 = 0u;
         r6_0_1 = 0u;
-        goto mmc_sdhci_sdhci_Sdhci_read_by_port_be3681d7e494b24f_exit;
+        goto mmc_sdhci_sdhci_Sdhci_read_by_port_3ddda61d839eace2_exit;
     }
     r4_042 = r82;
     goto join_8;
 }
-mmc_sdhci_sdhci_Sdhci_read_by_port_be3681d7e494b24f_exit: {
-    uint8_t v31 = r2_1_2[1];
-    uint8_t v32 = r2_1_2[4];
-    memcpy(r6_11, r2_1_2 + 5, 15);
+mmc_sdhci_sdhci_Sdhci_read_by_port_3ddda61d839eace2_exit: {
+    uint8_t v31 = r2_3[1];
+    uint8_t v32 = r2_3[4];
+    memcpy(r6_11, r2_3 + 5, 15);
     r6_1813_0 = r6_1813_1;
     r6_17_0 = r6_17_1;
     r6_1410_0 = r6_1410_1;
@@ -3294,22 +3323,22 @@ mmc_sdhci_sdhci_Sdhci_read_by_port_be3681d7e494b24f_exit: {
     r6_5_0 = v31;
     r6_0_0 = r6_0_1;
 }
-mmc_sdhci_sdhci_SdhciHost_read_with_be3681d7e494b24f_exit: {
+mmc_sdhci_sdhci_SdhciHost_read_with_3ddda61d839eace2_exit: {
     r4_16_0 = r6_1813_0;
     r4_13_0 = r6_17_0;
     r4_11_0 = r6_1410_0 == 1u;
     r4_6_0_2 = r6_87_0;
     r4_3_0 = r6_5_0;
     r4_0_0_2 = r6_0_0;
-    goto mmc_story_host_StoryHostHost_read_with_46376cf20cc1f5e4_exit;
+    goto c_host_way_WayHost_read_with_26638964995f45d7_exit;
 }
 c_host_records_touched_by_exit: {
     if (r7_0 == 0u) {
-        goto c_host_stream_Stream_read_with_17eb765c99e0dd2f_exit;
+        goto mmc_story_host_StoryHostHost_read_with_ad85f67b87cd1a36_exit;
     }
     io_read_full(load32_aligned(a1 + 4), r39, r7_0 << 9u);
 }
-c_host_stream_Stream_read_with_17eb765c99e0dd2f_exit: {
+mmc_story_host_StoryHostHost_read_with_ad85f67b87cd1a36_exit: {
     uint8_t v21 = *r4_6;
     uint8_t v22 = r4_6[1];
     uint8_t v23 = r4_6[4];
@@ -3321,11 +3350,11 @@ c_host_stream_Stream_read_with_17eb765c99e0dd2f_exit: {
     r4_3_0 = v22;
     r4_0_0_2 = v21;
 }
-mmc_story_host_StoryHostHost_read_with_46376cf20cc1f5e4_exit: {
-    memcpy(r20, a1 + 152, 36);
+c_host_way_WayHost_read_with_26638964995f45d7_exit: {
+    memcpy(r20, a1 + 144, 36);
     HostState_sent(r19_3, r20, r4_5, r4_0_0_2 == 0u);
     uint8_t r1_3_0 = r19_3[3];
-    uint8_t r1_5_0 = r19_3[4];
+    uint8_t r1_5_0_6 = r19_3[4];
     r1_74_0 = load16_aligned(r19_3 + 6);
     r1_147_0 = r19_3[16];
     r1_168_0 = load32_aligned(r19_3 + 20);
@@ -3337,36 +3366,36 @@ mmc_story_host_StoryHostHost_read_with_46376cf20cc1f5e4_exit: {
         r8_13_0 = 0u; /* any */
         r8_11_0 = 0u; /* any */
         r8_9_0 = 0u;
-        r8_5_0 = (uint8_t)(r1_5_0 & 1u);
+        r8_5_0 = (uint8_t)(r1_5_0_6 & 1u);
         r8_3_0 = (uint8_t)(r1_3_0 & 1u);
         goto mmc_host_told_HostState_blocks_passed_7f0cbf1439b758da_exit;
     }
     uint16_t r1_12_0 = load16_aligned(r19_3 + 12);
     uint16_t r1_105_0 = load16_aligned(r19_3 + 10);
-    store16_aligned(r10_2, (uint16_t)r19_3[8]);
-    store16_aligned(r10_2 + 2, r1_105_0);
-    store16_aligned(r10_2 + 4, r1_12_0);
-    Data_less_by(r9_2, r10_2, r4_16_0);
+    store16_aligned(r10_8, (uint16_t)r19_3[8]);
+    store16_aligned(r10_8 + 2, r1_105_0);
+    store16_aligned(r10_8 + 4, r1_12_0);
+    Data_less_by(r9_7_2, r10_8, r4_16_0);
     memcpy(r8_0, r19_3, 3);
-    r8_13_0 = load16_aligned(r9_2 + 4);
-    r8_11_0 = load16_aligned(r9_2 + 2);
-    r8_9_0 = (uint16_t)*r9_2;
-    r8_5_0 = r1_5_0;
+    r8_13_0 = load16_aligned(r9_7_2 + 4);
+    r8_11_0 = load16_aligned(r9_7_2 + 2);
+    r8_9_0 = (uint16_t)*r9_7_2;
+    r8_5_0 = r1_5_0_6;
     r8_3_0 = r1_3_0;
 }
 mmc_host_told_HostState_blocks_passed_7f0cbf1439b758da_exit: {
-    memcpy(a1 + 152, r8_0, 3);
-    a1[155] = r8_3_0;
-    a1[156] = r8_5_0;
-    store16(a1 + 158, r1_74_0);
-    store16(a1 + 160, r8_9_0);
-    store16(a1 + 162, r8_11_0);
-    store16(a1 + 164, r8_13_0);
-    store32(a1 + 168, (uint32_t)r1_147_0);
-    store32(a1 + 172, r1_168_0);
-    store32(a1 + 176, r1_18_0);
-    store32(a1 + 180, r1_20_0);
-    store32(a1 + 184, r1_22_0);
+    memcpy(a1 + 144, r8_0, 3);
+    a1[147] = r8_3_0;
+    a1[148] = r8_5_0;
+    store16(a1 + 150, r1_74_0);
+    store16(a1 + 152, r8_9_0);
+    store16(a1 + 154, r8_11_0);
+    store16(a1 + 156, r8_13_0);
+    store32(a1 + 160, (uint32_t)r1_147_0);
+    store32(a1 + 164, r1_168_0);
+    store32(a1 + 168, r1_18_0);
+    store32(a1 + 172, r1_20_0);
+    store32(a1 + 176, r1_22_0);
     *r23_2 = r4_0_0_2;
     r23_2[1] = r4_3_0;
     r23_2[4] = r4_6_0_2;
@@ -3378,7 +3407,7 @@ mmc_host_told_HostState_blocks_passed_7f0cbf1439b758da_exit: {
     v37 = *r7_4;
     r26[8] = v37;
     memcpy(r26 + 9, r7_4 + 1, 17);
-    Wire_note(a1 + 96, r26);
+    Wire_note(a1 + 88, r26);
     if (r4_11_0) {
         r10_32_08 = 1u;
         r10_0_07 = r4_13_0;
@@ -3391,18 +3420,18 @@ mmc_host_told_HostState_blocks_passed_7f0cbf1439b758da_exit: {
     r10_0_07 = 0u;
 }
 then_5_2: {
-    store64_aligned(a1 + 144, uadd_sat64(r10_32_08 + UINT64_C(0xffffffffffffffff), load64_aligned(a1 + 144)));
+    store64_aligned(a1 + 136, uadd_sat64(r10_32_08 + UINT64_C(0xffffffffffffffff), load64_aligned(a1 + 136)));
     *r16_4 = 1u;
     store64_aligned(r16_4 + 8, 512u);
     r16_4[16] = r10_0_07;
-    Wire_note(a1 + 96, r16_4);
+    Wire_note(a1 + 88, r16_4);
 }
 mmc_host_noting_note_blocks_exit: {
     r92_sink = r7_4 + 1;
     r14_0_0_0 = v37;
     r14_5_0 = r4_11_0;
     r14_91_0 = r4_16_0;
-    goto mmc_bus_together_ask_reading_1e3c51e583aca15a_exit;
+    goto mmc_bus_together_ask_reading_2555c61120d04c34_exit;
 }
 arm_2_6: {
     HostBusBus_begin(r30, a1, r5_2, 1u, r7_2);
@@ -3411,16 +3440,16 @@ arm_2_6: {
     r14_5_0 = false;
     r14_91_0 = 0u;
 }
-mmc_bus_together_ask_reading_1e3c51e583aca15a_exit: {
+mmc_bus_together_ask_reading_2555c61120d04c34_exit: {
     memcpy(r3_2_2, r92_sink, 17);
-    *r1_4 = r14_0_0_0;
-    memcpy(r1_4 + 1, r3_2_2, 17);
-    host_response_in(r8_6, r1_4, v);
+    *r1_6 = r14_0_0_0;
+    memcpy(r1_6 + 1, r3_2_2, 17);
+    host_response_in(r8_6, r1_6, v);
     uint8_t r0_0_0_5 = *r8_6;
     uint32_t r0_0_4 = load32_aligned(r8_6 + 4);
     if (r0_0_0_5 != 0u) {
         if (r14_5_0) {
-            r4_4_0_2 = 1u;
+            r4_4_0 = 1u;
             r4_0_0_3 = 2u;
             goto mmc_transfer_run_Run_stand_exit;
         }
@@ -3428,7 +3457,7 @@ mmc_bus_together_ask_reading_1e3c51e583aca15a_exit: {
         goto arm_6;
     }
     if (r14_5_0) {
-        r4_4_0_2 = 1u;
+        r4_4_0 = 1u;
         r4_0_0_3 = 2u;
         goto mmc_transfer_run_Run_stand_exit;
     }
@@ -3443,7 +3472,7 @@ mmc_bus_together_ask_reading_1e3c51e583aca15a_exit: {
         goto arm_5;
     }
     if (r21_2 || ((r8_2[130] & 1u) != 0)) {
-        r4_4_0_2 = 0u; /* any */
+        r4_4_0 = 0u; /* any */
         r4_0_0_3 = 1u;
         goto mmc_transfer_run_Run_stand_exit;
     }
@@ -3452,7 +3481,7 @@ mmc_bus_together_ask_reading_1e3c51e583aca15a_exit: {
     goto arm_5;
 }
 arm_6: {
-    r4_4_0_2 = (uint8_t)((r14_91_0 == 0u) ? r0_3_0_710 : 1u);
+    r4_4_0 = (uint8_t)((r14_91_0 == 0u) ? r0_3_0_710 : 1u);
     r4_0_0_3 = 2u;
     goto mmc_transfer_run_Run_stand_exit;
 }
@@ -3460,15 +3489,15 @@ arm_5: {
     store32_aligned(r8_2 + 176, r14_5_0_ph_ph);
     store32_aligned(r8_2 + 180, r28_2);
     store32_aligned(r8_2 + 184, r14_7_0_ph_ph);
-    r4_4_0_2 = 0u; /* any */
+    r4_4_0 = 0u; /* any */
     r4_0_0_3 = 0u;
 }
 mmc_transfer_run_Run_stand_exit: {
     struct of_i8_i8 r43_fca_0_insert = (struct of_i8_i8){r4_0_0_3, 0};
-    struct of_i8_i8 r43_fca_1_insert = (struct of_i8_i8){r43_fca_0_insert.f0, r4_4_0_2};
+    struct of_i8_i8 r43_fca_1_insert = (struct of_i8_i8){r43_fca_0_insert.f0, r4_4_0};
     r30_pn = r43_fca_1_insert;
 }
-mmc_transfer_run_Run_read_on_1e3c51e583aca15a_exit: {
+mmc_transfer_run_Run_read_on_2555c61120d04c34_exit: {
     switch (r30_pn.f0) {
     default: {
         goto default_unreachable;
@@ -3488,7 +3517,7 @@ mmc_transfer_run_Run_read_on_1e3c51e583aca15a_exit: {
         r37_sink = r21_3_0;
         sink58_phi = r0_10;
         sink_2 = r21_4_0;
-        goto kelifandro_request_read_bbb6b08ee4b3c338_exit;
+        goto kelifandro_request_read_1bed76fd314cf36e_exit;
     }
     case 2u: {
         uint8_t r24_2_0_2 = r8_2[144];
@@ -3504,11 +3533,11 @@ mmc_transfer_run_Run_read_on_1e3c51e583aca15a_exit: {
         r37_sink = r30_pn.f1;
         sink58_phi = r0_13;
         sink_2 = 0u;
-        goto kelifandro_request_read_bbb6b08ee4b3c338_exit;
+        goto kelifandro_request_read_1bed76fd314cf36e_exit;
     }
     }
 }
-kelifandro_request_read_bbb6b08ee4b3c338_exit: {
+kelifandro_request_read_1bed76fd314cf36e_exit: {
     *sink60_phi = r24_4_0_sink;
     *sink59_phi = r37_sink;
     *sink58_phi = sink_2;
@@ -3517,21 +3546,21 @@ kelifandro_request_read_bbb6b08ee4b3c338_exit: {
     uint8_t r0_10_0_r0_10_0_r0_10_0_r0_10_0_r0_10_0_r0_10_0_r0_10_0_r0_10_0_r0_10_0_r0_10_0_r0_10_0_r0_10_0_r0_10_0_r0_10_16 = *r0_10;
     uint8_t r0_124_0_r0_124_0_r0_124_0_r0_124_0_r0_124_0_r0_124_0_r0_124_0_r0_124_0_r0_124_0_r0_124_0_r0_124_0_r0_124_0_r0_124_0_r0_124_16 = *r0_124;
     uint8_t r0_13_0_r0_13_0_r0_13_0_r0_13_0_r0_13_0_r0_13_0_r0_13_0_r0_13_0_r0_13_0_r0_13_0_r0_13_0_r0_13_0_r0_13_0_r0_13_16 = *r0_13;
-    store128_aligned(r8_4, u128_of(0u, r0_0_0_3));
-    memcpy(r8_4 + 16, r0_3_2, 144);
-    r8_4[160] = r0_6_0_r0_6_0_r0_6_0_r0_6_0_r0_6_0_r0_6_0_r0_6_0_r0_6_0_r0_6_0_r0_6_0_r0_6_0_r0_6_0_r0_6_0_r0_6_16;
-    r8_4[161] = r0_8_0_r0_8_0_r0_8_0_r0_8_0_r0_8_0_r0_8_0_r0_8_0_r0_8_0_r0_8_0_r0_8_0_r0_8_0_r0_8_0_r0_8_0_r0_8_16;
-    r8_4[162] = r0_10_0_r0_10_0_r0_10_0_r0_10_0_r0_10_0_r0_10_0_r0_10_0_r0_10_0_r0_10_0_r0_10_0_r0_10_0_r0_10_0_r0_10_0_r0_10_16;
-    r8_4[176] = r0_124_0_r0_124_0_r0_124_0_r0_124_0_r0_124_0_r0_124_0_r0_124_0_r0_124_0_r0_124_0_r0_124_0_r0_124_0_r0_124_0_r0_124_0_r0_124_16;
-    r8_4[177] = r0_13_0_r0_13_0_r0_13_0_r0_13_0_r0_13_0_r0_13_0_r0_13_0_r0_13_0_r0_13_0_r0_13_0_r0_13_0_r0_13_0_r0_13_0_r0_13_16;
+    store128_aligned(r8_3, u128_of(0u, r0_0_0_3));
+    memcpy(r8_3 + 16, r0_3_2, 144);
+    r8_3[160] = r0_6_0_r0_6_0_r0_6_0_r0_6_0_r0_6_0_r0_6_0_r0_6_0_r0_6_0_r0_6_0_r0_6_0_r0_6_0_r0_6_0_r0_6_0_r0_6_16;
+    r8_3[161] = r0_8_0_r0_8_0_r0_8_0_r0_8_0_r0_8_0_r0_8_0_r0_8_0_r0_8_0_r0_8_0_r0_8_0_r0_8_0_r0_8_0_r0_8_0_r0_8_16;
+    r8_3[162] = r0_10_0_r0_10_0_r0_10_0_r0_10_0_r0_10_0_r0_10_0_r0_10_0_r0_10_0_r0_10_0_r0_10_0_r0_10_0_r0_10_0_r0_10_0_r0_10_16;
+    r8_3[176] = r0_124_0_r0_124_0_r0_124_0_r0_124_0_r0_124_0_r0_124_0_r0_124_0_r0_124_0_r0_124_0_r0_124_0_r0_124_0_r0_124_0_r0_124_0_r0_124_16;
+    r8_3[177] = r0_13_0_r0_13_0_r0_13_0_r0_13_0_r0_13_0_r0_13_0_r0_13_0_r0_13_0_r0_13_0_r0_13_0_r0_13_0_r0_13_0_r0_13_0_r0_13_16;
 }
-kelifandro_request_CRequestRequest_run_bbb6b08ee4b3c338_exit: {
-    uint8_t r86 = *r8_4;
-    memcpy(r0_4_2_0, r8_4 + 16, 144);
-    uint8_t r0_4_2_4_0_49 = r8_4[160];
-    uint8_t r0_4_2_5_0_51 = r8_4[161];
-    uint8_t r0_4_2_6_0_53 = r8_4[162];
-    memcpy(r0_4_2_7, r8_4 + 163, 29);
+kelifandro_request_CRequestRequest_run_1bed76fd314cf36e_exit: {
+    uint8_t r86 = *r8_3;
+    memcpy(r0_4_2_0, r8_3 + 16, 144);
+    uint8_t r0_4_2_4_0_49 = r8_3[160];
+    uint8_t r0_4_2_5_0_51 = r8_3[161];
+    uint8_t r0_4_2_6_0_53 = r8_3[162];
+    memcpy(r0_4_2_7, r8_3 + 163, 29);
     r87_sink = u128_of(0u, r86);
     r0_4_2_0_sink = r0_4_2_0;
     r0_4_2_4_0_49_sink = r0_4_2_4_0_49;
@@ -3554,7 +3583,7 @@ default_unreachable: {
 }
 }
 
-/* mmc_recovery::order::restore::<#bbb6b08ee4b3c338> */
+/* mmc_recovery::order::restore::<#1bed76fd314cf36e> */
 static struct of_i8_i8 order_restore(uint8_t *a0, uint8_t *a1)
 {
     KELIFANDRO_ROOM uint8_t room[16];
@@ -3572,12 +3601,12 @@ static struct of_i8_i8 order_restore(uint8_t *a0, uint8_t *a1)
     order_show_status(r7, a0, r8);
     if (*r7 != 0u) {
         r0_4_0_ph = r7[1];
-        goto mmc_recovery_order_end_work_bbb6b08ee4b3c338_exit_thread;
+        goto mmc_recovery_order_end_work_1bed76fd314cf36e_exit_thread;
     }
     uint32_t r15 = (uint32_t)(load32_aligned(r7 + 4) >> 9u) & 15u;
     if (!(r15 < 9u)) {
         r0_4_0_ph = 2u;
-        goto mmc_recovery_order_end_work_bbb6b08ee4b3c338_exit_thread;
+        goto mmc_recovery_order_end_work_1bed76fd314cf36e_exit_thread;
     }
     switch ((uint8_t)r15) {
     default: {
@@ -3588,17 +3617,17 @@ static struct of_i8_i8 order_restore(uint8_t *a0, uint8_t *a1)
         goto arm_1;
     }
     case 7u: {
-        goto mmc_recovery_order_end_work_bbb6b08ee4b3c338_exit;
+        goto mmc_recovery_order_end_work_1bed76fd314cf36e_exit;
     }
     case 5u:
     case 6u: {
         host_ask(r1, a0, 12u, 0u);
         uint8_t r6 = *r1;
         if (r6 == 0u) {
-            goto mmc_recovery_order_end_work_bbb6b08ee4b3c338_exit;
+            goto mmc_recovery_order_end_work_1bed76fd314cf36e_exit;
         }
         r0_4_0_ph = 0u;
-        goto mmc_recovery_order_end_work_bbb6b08ee4b3c338_exit_thread;
+        goto mmc_recovery_order_end_work_1bed76fd314cf36e_exit_thread;
     }
     case 0u:
     case 1u:
@@ -3606,15 +3635,15 @@ static struct of_i8_i8 order_restore(uint8_t *a0, uint8_t *a1)
     case 3u:
     case 8u: {
         r0_4_0_ph = 2u;
-        goto mmc_recovery_order_end_work_bbb6b08ee4b3c338_exit_thread;
+        goto mmc_recovery_order_end_work_1bed76fd314cf36e_exit_thread;
     }
     }
-mmc_recovery_order_end_work_bbb6b08ee4b3c338_exit_thread: {
+mmc_recovery_order_end_work_1bed76fd314cf36e_exit_thread: {
     r0_0_0 = 1u;
     r53_pn_pn = r0_4_0_ph;
     goto return_5;
 }
-mmc_recovery_order_end_work_bbb6b08ee4b3c338_exit: {
+mmc_recovery_order_end_work_1bed76fd314cf36e_exit: {
     wait_count_polls(r1_2, a0);
     uint8_t r1_0_0_2 = *r1_2;
     uint8_t r1_2_1_4 = r1_2[1];
@@ -3631,19 +3660,19 @@ arm_1: {
     if (r6_2 != 0u) {
         r0_0_0_3 = 1u;
         r53_pn = 4u;
-        goto mmc_recovery_order_put_in_order_bbb6b08ee4b3c338_exit;
+        goto mmc_recovery_order_put_in_order_1bed76fd314cf36e_exit;
     }
     order_show_status(r8_2, a0, load16_aligned(a1 + 2));
     if (*r8_2 != 0u) {
         r0_0_0_3 = 1u;
         r53_pn = r8_2[1];
-        goto mmc_recovery_order_put_in_order_bbb6b08ee4b3c338_exit;
+        goto mmc_recovery_order_put_in_order_1bed76fd314cf36e_exit;
     }
     struct of_i8_i8 r53 = status_confirm(a0, *a1, load16_aligned(a1 + 2));
     r0_0_0_3 = r53.f0;
     r53_pn = r53.f1;
 }
-mmc_recovery_order_put_in_order_bbb6b08ee4b3c338_exit: {
+mmc_recovery_order_put_in_order_1bed76fd314cf36e_exit: {
     r0_0_0 = r0_0_0_3;
     r53_pn_pn = r53_pn;
 }
@@ -3654,7 +3683,7 @@ return_5: {
 }
 }
 
-/* mmc_recovery::order::show_status::<#bbb6b08ee4b3c338> */
+/* mmc_recovery::order::show_status::<#1bed76fd314cf36e> */
 static void order_show_status(uint8_t *a0, uint8_t *a1, uint16_t a2)
 {
     KELIFANDRO_ROOM uint8_t r2[8];
@@ -3667,7 +3696,7 @@ static void order_show_status(uint8_t *a0, uint8_t *a1, uint16_t a2)
     return;
 }
 
-/* mmc_bus::host::ask::<#bbb6b08ee4b3c338> */
+/* mmc_bus::host::ask::<#1bed76fd314cf36e> */
 static void host_ask(uint8_t *a0, uint8_t *a1, uint8_t a2, uint32_t a3)
 {
     KELIFANDRO_ROOM uint8_t room[18];
@@ -3714,7 +3743,7 @@ join_6: {
 }
 }
 
-/* mmc_host::host_bus::HostBusBus::command::<#aa513fd246906337> */
+/* mmc_host::host_bus::HostBusBus::command::<#d568f3fc8d51bff2> */
 static void HostBusBus_command(uint8_t *a0, uint8_t *a1, uint8_t *a2, uint8_t a3)
 {
     KELIFANDRO_ROOM uint8_t r0[18];
@@ -3726,7 +3755,7 @@ static void HostBusBus_command(uint8_t *a0, uint8_t *a1, uint8_t *a2, uint8_t a3
     return;
 }
 
-/* mmc_host::host_bus::HostBusBus::begin::<#aa513fd246906337> */
+/* mmc_host::host_bus::HostBusBus::begin::<#d568f3fc8d51bff2> */
 static void HostBusBus_begin(uint8_t *a0, uint8_t *a1, uint8_t *a2, uint8_t a3, uint16_t a4)
 {
     KELIFANDRO_ROOM uint8_t room[76];
@@ -3743,7 +3772,7 @@ static void HostBusBus_begin(uint8_t *a0, uint8_t *a1, uint8_t *a2, uint8_t a3, 
     uint8_t *const r1 = room + 24;
     uint8_t *const r0_2 = room + 24;
     uint8_t *const r12_2 = room + 40;
-    uint8_t *const r0_9 = room + 48;
+    uint8_t *const r4_14 = room + 48;
     uint8_t *const r21 = room + 48;
     uint8_t *const r4_5 = room + 48;
     KELIFANDRO_ROOM uint8_t r13_2[16];
@@ -3759,49 +3788,49 @@ static void HostBusBus_begin(uint8_t *a0, uint8_t *a1, uint8_t *a2, uint8_t a3, 
     uint8_t a1_2;
     uint8_t r29;
     bool r43;
-    uint32_t r1_31_0;
-    uint8_t r1_4_0;
-    uint8_t r1_52_0;
-    uint16_t r1_63_0;
-    uint16_t r1_7_0;
+    uint32_t r1_413_0;
+    uint8_t r1_5_0;
+    uint8_t r1_620_0;
+    uint16_t r1_725_0;
+    uint16_t r1_8_0;
     uint8_t r11_41_0_off0;
     uint8_t r11_41_0_off8;
     uint8_t r11_7_0_off0;
     uint8_t r11_7_0_off8;
-    uint8_t r0_4_4_9;
-    uint8_t r0_2_1_7;
-    uint8_t r0_0_0_5;
+    uint8_t r4_0_0_2;
+    uint8_t r4_5_0;
+    uint8_t r4_10_0;
     uint8_t r0_4_4;
     uint8_t r0_2_1;
     uint8_t r0_0_0;
-    uint32_t r0_6_4_0;
-    uint64_t r0_6_5_0;
+    uint32_t r8_6_2_0;
+    uint64_t r8_6_3_0;
     uint32_t common_ret_op;
     uint8_t r4_0_0;
     memcpy(r3, a2, 6);
     command_read_command(r4, a2);
     if (*r4 != 1u) {
-        a1[188] = 1u;
+        a1[180] = 1u;
         r4_0_0 = 0u;
-        goto mmc_host_host_bus_HostBus_carry_aa513fd246906337_exit;
+        goto mmc_host_host_bus_HostBus_carry_d568f3fc8d51bff2_exit;
     }
     uint8_t r13 = r4[4];
     uint32_t r16 = load32_aligned(r4 + 8);
-    memcpy(r5, a1 + 152, 36);
+    memcpy(r5, a1 + 144, 36);
     HostState_command(r3_2, r5, r13, r16, umax16(a4, 1u));
     if (r13 > 63u) {
         goto join_9;
     }
-    r23_not_3 = a1[160] == 0u;
+    r23_not_3 = a1[152] == 0u;
     if (!((r3_2[10] == 0u) || r23_not_3)) {
         goto join_9;
     }
     r1_0_0 = *r3_2;
-    spec_select = ((a1[155] & 1u) != 0) || (r1_0_0 == 0u);
-    r4_2_0 = a1[97];
-    uint8_t r5_0_0 = a1[98];
-    r5_2_0 = a1[99];
-    switch (a1[96]) {
+    spec_select = ((a1[147] & 1u) != 0) || (r1_0_0 == 0u);
+    r4_2_0 = a1[89];
+    uint8_t r5_0_0 = a1[90];
+    r5_2_0 = a1[91];
+    switch (a1[88]) {
     default: {
         trap();
         return;
@@ -3827,35 +3856,35 @@ after_2: {
 mmc_host_limits_limited_exit: {
     a1_2 = (uint8_t)((r4_2_0 == 0u) ? 0u : r5_2_0);
     r29 = (uint8_t)spec_select;
-    if (a1[154] != r29) {
+    if (a1[146] != r29) {
         goto then_2;
     }
-    if (r5_0_0_2 != a1[152]) {
+    if (r5_0_0_2 != a1[144]) {
         goto then_2;
     }
-    if ((a1_2 != a1[153]) && r23_not_3) {
+    if ((a1_2 != a1[145]) && r23_not_3) {
         goto then_5;
     }
-    goto mmc_host_host_bus_HostBus_set_ios_aa513fd246906337_exit;
+    goto mmc_host_host_bus_HostBus_set_ios_d568f3fc8d51bff2_exit;
 }
 then_2: {
     if (r23_not_3) {
         goto then_5;
     }
-    goto mmc_host_host_bus_HostBus_set_ios_aa513fd246906337_exit;
+    goto mmc_host_host_bus_HostBus_set_ios_d568f3fc8d51bff2_exit;
 }
 then_5: {
     *r12 = r5_0_0_2;
     r12[1] = a1_2;
     r12[2] = r29;
-    StoryHostHost_set_ios(a1, r12);
+    WayHost_set_ios(a1, r12);
     *r12 = r5_0_0_2;
     r12[1] = a1_2;
     r12[2] = r29;
-    memcpy(a1 + 152, r12, 3);
+    memcpy(a1 + 144, r12, 3);
 }
-mmc_host_host_bus_HostBus_set_ios_aa513fd246906337_exit: {
-    r43 = (a1[156] & 1u) != 0;
+mmc_host_host_bus_HostBus_set_ios_d568f3fc8d51bff2_exit: {
+    r43 = (a1[148] & 1u) != 0;
     *r1 = r1_0_0;
     memcpy(r1 + 1, r3_2 + 1, 15);
     if (*a1 != 0u) {
@@ -3863,13 +3892,13 @@ mmc_host_host_bus_HostBus_set_ios_aa513fd246906337_exit: {
         r0_4_4 = r4_2[4];
         r0_2_1 = r4_2[1];
         r0_0_0 = *r4_2;
-        goto mmc_story_host_StoryHostHost_send_4c4a06f79826ed18_exit;
+        goto c_host_way_WayHost_send_b4302b8119c90b07_exit;
     }
-    r1_31_0 = load32_aligned(r1 + 4);
-    r1_4_0 = r1[8];
-    r1_52_0 = r1[10];
-    r1_63_0 = load16_aligned(r1 + 12);
-    r1_7_0 = load16_aligned(r1 + 14);
+    r1_413_0 = load32_aligned(r1 + 4);
+    r1_5_0 = r1[8];
+    r1_620_0 = r1[10];
+    r1_725_0 = load16_aligned(r1 + 12);
+    r1_8_0 = load16_aligned(r1 + 14);
     switch (r1_0_0) {
     default: {
         goto join_3;
@@ -3878,48 +3907,48 @@ mmc_host_host_bus_HostBus_set_ios_aa513fd246906337_exit: {
         if ((a1[12] & 1u) != 0) {
             goto join_3;
         }
-        r0_4_4_9 = 0u; /* any */
-        r0_2_1_7 = 0u;
-        r0_0_0_5 = 1u;
-        goto c_host_way_CFunctions_send_exit;
+        r4_0_0_2 = 1u;
+        r4_5_0 = 0u;
+        r4_10_0 = 0u; /* any */
+        goto mmc_story_host_StoryHostHost_send_051560a3ce3af2be_exit;
     }
     case 41u: {
         if ((a1[11] & 1u) != 0) {
             goto join_3;
         }
-        r0_4_4_9 = 0u; /* any */
-        r0_2_1_7 = 0u;
-        r0_0_0_5 = 1u;
-        goto c_host_way_CFunctions_send_exit;
+        r4_0_0_2 = 1u;
+        r4_5_0 = 0u;
+        r4_10_0 = 0u; /* any */
+        goto mmc_story_host_StoryHostHost_send_051560a3ce3af2be_exit;
     }
     }
 }
 join_3: {
     memset(r2, 0u, 24);
-    switch (r1_52_0) {
+    switch (r1_620_0) {
     default: {
         trap();
         return;
     }
     case 0u: {
-        r11_41_0_off0 = r1_52_0;
-        r11_41_0_off8 = r1_52_0;
-        r11_7_0_off0 = r1_52_0;
-        r11_7_0_off8 = r1_52_0;
+        r11_41_0_off0 = r1_620_0;
+        r11_41_0_off8 = r1_620_0;
+        r11_7_0_off0 = r1_620_0;
+        r11_7_0_off8 = r1_620_0;
         goto c_host_stream_Stream_send_exit;
     }
     case 1u: {
-        r11_41_0_off0 = (uint8_t)r1_63_0;
-        r11_41_0_off8 = (uint8_t)(uint16_t)((uint32_t)r1_63_0 >> 8u);
-        r11_7_0_off0 = (uint8_t)r1_7_0;
-        r11_7_0_off8 = (uint8_t)(uint16_t)((uint32_t)r1_7_0 >> 8u);
+        r11_41_0_off0 = (uint8_t)r1_725_0;
+        r11_41_0_off8 = (uint8_t)(uint16_t)((uint32_t)r1_725_0 >> 8u);
+        r11_7_0_off0 = (uint8_t)r1_8_0;
+        r11_7_0_off8 = (uint8_t)(uint16_t)((uint32_t)r1_8_0 >> 8u);
         goto c_host_stream_Stream_send_exit;
     }
     case 2u: {
         r11_41_0_off0 = 0u;
         r11_41_0_off8 = 2u;
-        r11_7_0_off0 = (uint8_t)r1_63_0;
-        r11_7_0_off8 = (uint8_t)(uint16_t)((uint32_t)r1_63_0 >> 8u);
+        r11_7_0_off0 = (uint8_t)r1_725_0;
+        r11_7_0_off8 = (uint8_t)(uint16_t)((uint32_t)r1_725_0 >> 8u);
         goto c_host_stream_Stream_send_exit;
     }
     }
@@ -3927,67 +3956,67 @@ join_3: {
 c_host_stream_Stream_send_exit: {
     *r5_2 = 1u;
     r5_2[1] = r1_0_0;
-    r5_2[2] = r1_4_0;
-    r5_2[3] = r1_52_0;
-    store32_aligned(r5_2 + 4, r1_31_0);
+    r5_2[2] = r1_5_0;
+    r5_2[3] = r1_620_0;
+    store32_aligned(r5_2 + 4, r1_413_0);
     r5_2[8] = r11_41_0_off0;
     r5_2[9] = r11_41_0_off8;
     r5_2[10] = r11_7_0_off0;
     r5_2[11] = r11_7_0_off8;
     Stream_ask(a1 + 4, r5_2, 12u, r2, 24u);
-    records_heard_by(r0, r1_4_0, r2);
+    records_heard_by(r0, r1_5_0, r2);
     uint8_t v4 = *r0;
     uint8_t v5 = r0[1];
     uint8_t v6 = r0[4];
-    memcpy(r0_9, r0 + 5, 15);
-    memcpy(r4_2 + 5, r0_9, 15);
-    r0_4_4_9 = v6;
-    r0_2_1_7 = v5;
-    r0_0_0_5 = v4;
+    memcpy(r4_14, r0 + 5, 15);
+    r4_0_0_2 = v4;
+    r4_5_0 = v5;
+    r4_10_0 = v6;
 }
-c_host_way_CFunctions_send_exit: {
-    r0_4_4 = r0_4_4_9;
-    r0_2_1 = r0_2_1_7;
-    r0_0_0 = r0_0_0_5;
+mmc_story_host_StoryHostHost_send_051560a3ce3af2be_exit: {
+    memcpy(r4_2 + 5, r4_14, 15);
+    r0_4_4 = r4_10_0;
+    r0_2_1 = r4_5_0;
+    r0_0_0 = r4_0_0_2;
 }
-mmc_story_host_StoryHostHost_send_4c4a06f79826ed18_exit: {
+c_host_way_WayHost_send_b4302b8119c90b07_exit: {
     memcpy(r3_10, r4_2 + 5, 3);
-    r0_6_4_0 = load32_aligned(r4_2 + 8);
-    r0_6_5_0 = load64(r4_2 + 12);
-    memcpy(r12_2, a1 + 152, 36);
+    r8_6_2_0 = load32_aligned(r4_2 + 8);
+    r8_6_3_0 = load64(r4_2 + 12);
+    memcpy(r12_2, a1 + 144, 36);
     *r13_2 = r1_0_0;
     memcpy(r13_2 + 1, r3_2 + 1, 15);
     bool v7 = r0_0_0 == 0u;
     HostState_sent(r11, r12_2, r13_2, v7);
-    memcpy(a1 + 152, r11, 36);
+    memcpy(a1 + 144, r11, 36);
     if (!(v7 && (r0_4_4 == 1u))) {
-        goto mmc_host_host_bus_HostBus_send_aa513fd246906337_exit;
+        goto mmc_host_host_bus_HostBus_send_d568f3fc8d51bff2_exit;
     }
     switch (r1_0_0) {
     default: {
-        goto mmc_host_host_bus_HostBus_send_aa513fd246906337_exit;
+        goto mmc_host_host_bus_HostBus_send_d568f3fc8d51bff2_exit;
     }
     case 1u: {
-        if ((r0_6_4_0 ^ UINT32_C(0x80000000)) > UINT32_C(0x7fffffff)) {
+        if ((r8_6_2_0 ^ UINT32_C(0x80000000)) > UINT32_C(0x7fffffff)) {
             common_ret_op = 64000u;
             goto then_1;
         }
-        goto mmc_host_host_bus_HostBus_send_aa513fd246906337_exit;
+        goto mmc_host_host_bus_HostBus_send_d568f3fc8d51bff2_exit;
     }
     case 41u: {
-        if (r43 && ((r0_6_4_0 ^ UINT32_C(0x80000000)) > UINT32_C(0x7fffffff))) {
+        if (r43 && ((r8_6_2_0 ^ UINT32_C(0x80000000)) > UINT32_C(0x7fffffff))) {
             common_ret_op = 64000u;
             goto then_1;
         }
-        goto mmc_host_host_bus_HostBus_send_aa513fd246906337_exit;
+        goto mmc_host_host_bus_HostBus_send_d568f3fc8d51bff2_exit;
     }
     case 13u: {
-        uint32_t r9 = (uint32_t)(r0_6_4_0 >> 9u) & 15u;
-        if ((r9 == 7u) || (((uint32_t)(r0_6_4_0 & 256u) == 0u) && (r9 == 4u))) {
+        uint32_t r9 = (uint32_t)(r8_6_2_0 >> 9u) & 15u;
+        if ((r9 == 7u) || (((uint32_t)(r8_6_2_0 & 256u) == 0u) && (r9 == 4u))) {
             common_ret_op = 32000u;
             goto then_1;
         }
-        goto mmc_host_host_bus_HostBus_send_aa513fd246906337_exit;
+        goto mmc_host_host_bus_HostBus_send_d568f3fc8d51bff2_exit;
     }
     }
 }
@@ -3995,39 +4024,39 @@ then_1: {
     uint8_t r4_3 = *a1;
     Stream_pause(a1 + 4, common_ret_op);
     if (r4_3 == 0u) {
-        goto mmc_story_host_StoryHostHost_pause_4c4a06f79826ed18_exit;
+        goto c_host_way_WayHost_pause_b4302b8119c90b07_exit;
     }
     store32_aligned(a1 + 68, common_ret_op);
 }
-mmc_story_host_StoryHostHost_pause_4c4a06f79826ed18_exit: {
-    store32_aligned(a1 + 184, common_ret_op);
+c_host_way_WayHost_pause_b4302b8119c90b07_exit: {
+    store32_aligned(a1 + 176, common_ret_op);
 }
-mmc_host_host_bus_HostBus_send_aa513fd246906337_exit: {
+mmc_host_host_bus_HostBus_send_d568f3fc8d51bff2_exit: {
     *r21 = r1_0_0;
     memcpy(r21 + 1, r3_2 + 1, 15);
     *r22 = r0_0_0;
     r22[1] = r0_2_1;
     r22[4] = r0_4_4;
     memcpy(r22 + 5, r3_10, 3);
-    store32_aligned(r22 + 8, r0_6_4_0);
-    store64(r22 + 12, r0_6_5_0);
+    store32_aligned(r22 + 8, r8_6_2_0);
+    store64(r22 + 12, r8_6_3_0);
     replies_spelled(r0_2, r21, r22);
     uint8_t v11 = *r0_2;
     memcpy(r4_5, r0_2 + 1, 17);
     r4_0_0 = v11;
-    goto mmc_host_host_bus_HostBus_carry_aa513fd246906337_exit;
+    goto mmc_host_host_bus_HostBus_carry_d568f3fc8d51bff2_exit;
 }
 join_9: {
-    a1[188] = 1u;
+    a1[180] = 1u;
     r4_0_0 = 0u;
 }
-mmc_host_host_bus_HostBus_carry_aa513fd246906337_exit: {
+mmc_host_host_bus_HostBus_carry_d568f3fc8d51bff2_exit: {
     memcpy(r11_2 + 1, r3, 6);
     *r11_2 = 0u;
     r11_2[7] = a3;
     r11_2[8] = r4_0_0;
     memcpy(r11_2 + 9, r4_5, 17);
-    Wire_note(a1 + 96, r11_2);
+    Wire_note(a1 + 88, r11_2);
     *a0 = r4_0_0;
     memcpy(a0 + 1, r4_5, 17);
     return;
@@ -4365,7 +4394,7 @@ join_3: {
 }
 }
 
-/* mmc_sdhci::sdhci::SdhciHost::send::<#a418df33b11c0b05> */
+/* mmc_sdhci::sdhci::SdhciHost::send::<#d002fd087b3dc1c2> */
 static void SdhciHost_send(uint8_t *a0, uint8_t *a1, uint8_t *a2)
 {
     KELIFANDRO_ROOM uint8_t room[36];
@@ -4392,16 +4421,16 @@ static void SdhciHost_send(uint8_t *a0, uint8_t *a1, uint8_t *a2)
     return;
 }
 
-/* mmc_sdhci::command::send::<#a418df33b11c0b05> */
+/* mmc_sdhci::command::send::<#d002fd087b3dc1c2> */
 static void command_send(uint8_t *a0, uint8_t *a1, uint8_t *a2, uint8_t *a3, uint8_t a4)
 {
     uint8_t r8_0_0;
     uint8_t r8_3_0;
-    uint8_t r8_540_0;
+    uint8_t r8_539_0;
     bool not;
     uint32_t r10_0;
     uint32_t r59;
-    uint32_t r1_07;
+    uint32_t r1_08;
     uint32_t r2_8_5_0;
     uint32_t r2_8_4_0;
     uint32_t r2_8_3_0;
@@ -4418,43 +4447,43 @@ static void command_send(uint8_t *a0, uint8_t *a1, uint8_t *a2, uint8_t *a3, uin
     uint8_t r2_6_0;
     uint8_t r2_4_0;
     uint8_t r2_0_0;
-    uint32_t common_ret_op_71;
+    uint32_t common_ret_op_70;
     uint8_t r4_0_0;
     uint64_t sink;
     uint8_t r2_20_0_sink;
     r8_0_0 = *a3;
-    uint32_t r8_239_0 = load32(a3 + 4);
+    uint32_t r8_238_0 = load32(a3 + 4);
     r8_3_0 = a3[8];
-    r8_540_0 = a3[10];
-    uint16_t r8_641_0 = load16(a3 + 12);
+    r8_539_0 = a3[10];
+    uint16_t r8_640_0 = load16(a3 + 12);
     uint16_t r8_7_0 = load16(a3 + 14);
     not = *a2 == 0u;
     Stream_write_register(a1, 4u, 48u, not ? UINT32_C(0xffffffff) : UINT32_C(0xf0001));
-    switch (r8_540_0) {
+    switch (r8_539_0) {
     default: {
         trap();
         return;
     }
     case 0u: {
-        Stream_write_register(a1, 4u, 8u, r8_239_0);
+        Stream_write_register(a1, 4u, 8u, r8_238_0);
         r10_0 = 0u;
         goto switch_lookup;
     }
     case 2u: {
-        Stream_write_register(a1, 4u, 4u, (uint32_t)((uint32_t)r8_641_0 << 16u) | 29184u);
-        Stream_write_register(a1, 4u, 8u, r8_239_0);
-        r10_0 = (r8_641_0 == 1u) ? 0u : 34u;
+        Stream_write_register(a1, 4u, 4u, (uint32_t)((uint32_t)r8_640_0 << 16u) | 29184u);
+        Stream_write_register(a1, 4u, 8u, r8_238_0);
+        r10_0 = (r8_640_0 == 1u) ? 0u : 34u;
         goto switch_lookup;
     }
     case 1u: {
-        Stream_write_register(a1, 4u, 4u, (uint32_t)((uint32_t)r8_641_0 + 28672u) + ((uint32_t)r8_7_0 << 16u));
-        Stream_write_register(a1, 4u, 8u, r8_239_0);
+        Stream_write_register(a1, 4u, 4u, (uint32_t)((uint32_t)r8_640_0 + 28672u) + ((uint32_t)r8_7_0 << 16u));
+        Stream_write_register(a1, 4u, 8u, r8_238_0);
         r10_0 = (r8_7_0 == 1u) ? 16u : 50u;
         goto switch_lookup;
     }
     }
 switch_lookup: {
-    uint32_t r56 = (r10_0 | (uint32_t)a4) | (((r8_540_0 == 0u) ? 0u : UINT32_C(0x200000)) | ((uint32_t)((uint32_t)r8_0_0 << 24u) | ((r8_0_0 == 12u) ? UINT32_C(0xc00000) : 0u)));
+    uint32_t r56 = (r10_0 | (uint32_t)a4) | (((r8_539_0 == 0u) ? 0u : UINT32_C(0x200000)) | ((uint32_t)((uint32_t)r8_0_0 << 24u) | ((r8_0_0 == 12u) ? UINT32_C(0xc00000) : 0u)));
     r59 = r56 + load32_aligned(at((uint8_t *)bytes_command_send, (uint64_t)r8_3_0 * 4u));
     switch ((uint8_t)((uint8_t)(r59 >> 24u) & 63u)) {
     default: {
@@ -4478,23 +4507,23 @@ after_1: {
     Stream_write_register(a1, 4u, 12u, r59);
 }
 join_5_preheader: {
-    r1_07 = 0u;
+    r1_08 = 0u;
 }
 join_5: {
-    uint32_t r6 = Stream_read_register(a1, 4u, 48u);
-    switch (r6 & UINT32_C(0xf0001)) {
+    uint32_t r6_7 = Stream_read_register(a1, 4u, 48u);
+    switch (r6_7 & UINT32_C(0xf0001)) {
     default: {
-        common_ret_op_71 = r6;
+        common_ret_op_70 = r6_7;
         goto join_5_2;
     }
     case 0u: {
         Stream_pause(a1, 10u);
-        uint32_t r41 = r1_07 + 1u;
+        uint32_t r41 = r1_08 + 1u;
         if (r41 == 1000u) {
-            common_ret_op_71 = 0u;
+            common_ret_op_70 = 0u;
             goto join_5_2;
         }
-        r1_07 = r41;
+        r1_08 = r41;
         goto join_5;
     }
     case 1u: {
@@ -4520,10 +4549,10 @@ join_5: {
             r2_6_0 = 0u; /* any */
             r2_4_0 = 0u; /* any */
             r2_0_0 = r8_3_0;
-            goto mmc_sdhci_command_hear_a418df33b11c0b05_exit;
+            goto mmc_sdhci_command_hear_d002fd087b3dc1c2_exit;
         }
         case 3u: {
-            uint32_t r6_2 = Stream_read_register(a1, 4u, 28u);
+            uint32_t r6 = Stream_read_register(a1, 4u, 28u);
             uint32_t r6_4 = Stream_read_register(a1, 4u, 24u);
             uint32_t r6_5 = Stream_read_register(a1, 4u, 20u);
             uint32_t r6_6 = Stream_read_register(a1, 4u, 16u);
@@ -4539,22 +4568,22 @@ join_5: {
             r2_15_0 = (uint8_t)(r6_5 >> 8u);
             r2_14_0 = (uint8_t)(r6_5 >> 16u);
             r2_13_0 = (uint8_t)(r6_5 >> 24u);
-            r2_7_0 = (uint8_t)r6_2;
-            r2_6_0 = (uint8_t)(r6_2 >> 8u);
-            r2_4_0 = (uint8_t)(r6_2 >> 16u);
+            r2_7_0 = (uint8_t)r6;
+            r2_6_0 = (uint8_t)(r6 >> 8u);
+            r2_4_0 = (uint8_t)(r6 >> 16u);
             r2_0_0 = 2u;
-            goto mmc_sdhci_command_hear_a418df33b11c0b05_exit;
+            goto mmc_sdhci_command_hear_d002fd087b3dc1c2_exit;
         }
         case 1u:
         case 2u:
         case 4u:
         case 5u:
         case 6u: {
-            uint32_t r6_13 = Stream_read_register(a1, 4u, 16u);
-            r2_8_5_0 = r6_13 >> 24u;
-            r2_8_4_0 = r6_13 >> 16u;
-            r2_8_3_0 = r6_13 >> 8u;
-            r2_8_0_0 = r6_13 & 255u;
+            uint32_t r6_2 = Stream_read_register(a1, 4u, 16u);
+            r2_8_5_0 = r6_2 >> 24u;
+            r2_8_4_0 = r6_2 >> 16u;
+            r2_8_3_0 = r6_2 >> 8u;
+            r2_8_0_0 = r6_2 & 255u;
             r2_20_0 = 0u; /* any */
             r2_19_0 = 0u; /* any */
             r2_18_0 = 0u; /* any */
@@ -4567,13 +4596,13 @@ join_5: {
             r2_6_0 = 0u; /* any */
             r2_4_0 = 0u; /* any */
             r2_0_0 = 1u;
-            goto mmc_sdhci_command_hear_a418df33b11c0b05_exit;
+            goto mmc_sdhci_command_hear_d002fd087b3dc1c2_exit;
         }
         }
     }
     }
 }
-mmc_sdhci_command_hear_a418df33b11c0b05_exit: {
+mmc_sdhci_command_hear_d002fd087b3dc1c2_exit: {
     uint32_t r2_8_0_0_insert_insert = ((((r2_8_4_0 << 16u) & UINT32_C(0xff0000)) | (r2_8_5_0 << 24u)) | ((uint32_t)(r2_8_3_0 << 8u) & 65280u)) | r2_8_0_0;
     if (not) {
         *a0 = 0u;
@@ -4614,11 +4643,11 @@ mmc_sdhci_command_hear_a418df33b11c0b05_exit: {
 join_5_2: {
     command_reset_command(a1);
     command_reset_data(a1);
-    if (!((common_ret_op_71 & UINT32_C(0x20000)) == 0u)) {
+    if (!((common_ret_op_70 & UINT32_C(0x20000)) == 0u)) {
         r4_0_0 = 1u;
         goto mmc_sdhci_command_fault_in_exit;
     }
-    r4_0_0 = (uint8_t)(((common_ret_op_71 & UINT32_C(0x40000)) == 0u) ? (uint8_t)(((common_ret_op_71 & UINT32_C(0x80000)) == 0u) ? 0u : 3u) : 2u);
+    r4_0_0 = (uint8_t)(((common_ret_op_70 & UINT32_C(0x40000)) == 0u) ? (uint8_t)(((common_ret_op_70 & UINT32_C(0x80000)) == 0u) ? 0u : 3u) : 2u);
 }
 mmc_sdhci_command_fault_in_exit: {
     *a0 = 1u;
@@ -4631,21 +4660,21 @@ common_ret: {
 }
 }
 
-/* mmc_sdhci::command::reset_command::<#a418df33b11c0b05> */
+/* mmc_sdhci::command::reset_command::<#d002fd087b3dc1c2> */
 static void command_reset_command(uint8_t *a0)
 {
-    CRegistersRegisters_write8(a0, 47u, 2u);
+    StoryRegistersRegisters_write8(a0, 47u, 2u);
     settling_settle_reset(a0);
     return;
 }
 
-/* mmc_sdhci::settling::settle_reset::<#a418df33b11c0b05> */
+/* mmc_sdhci::settling::settle_reset::<#d002fd087b3dc1c2> */
 static void settling_settle_reset(uint8_t *a0)
 {
     uint32_t r0_03;
     r0_03 = 0u;
 join_5: {
-    uint8_t r13 = CRegistersRegisters_read8(a0, 47u);
+    uint8_t r13 = StoryRegistersRegisters_read8(a0, 47u);
     if (r13 == 0u) {
         goto common_ret;
     }
@@ -4655,17 +4684,17 @@ join_5: {
         r0_03 = r21;
         goto join_5;
     }
-    CRegistersRegisters_read8(a0, 47u);
+    StoryRegistersRegisters_read8(a0, 47u);
 }
 common_ret: {
     return;
 }
 }
 
-/* mmc_sdhci::command::reset_data::<#a418df33b11c0b05> */
+/* mmc_sdhci::command::reset_data::<#d002fd087b3dc1c2> */
 static void command_reset_data(uint8_t *a0)
 {
-    CRegistersRegisters_write8(a0, 47u, 4u);
+    StoryRegistersRegisters_write8(a0, 47u, 4u);
     settling_settle_reset(a0);
     return;
 }
@@ -4992,7 +5021,7 @@ join_5: {
 }
 }
 
-/* mmc_bus::wait::count_polls::<#bbb6b08ee4b3c338> */
+/* mmc_bus::wait::count_polls::<#1bed76fd314cf36e> */
 static void wait_count_polls(uint8_t *a0, uint8_t *a1)
 {
     uint64_t r1_08;
@@ -5018,7 +5047,7 @@ common_ret: {
 }
 }
 
-/* mmc_bus::host::poll::<#bbb6b08ee4b3c338> */
+/* mmc_bus::host::poll::<#1bed76fd314cf36e> */
 static bool host_poll(uint8_t *a0)
 {
     KELIFANDRO_ROOM uint8_t room[32];
@@ -5031,7 +5060,7 @@ static bool host_poll(uint8_t *a0)
     uint32_t r0_05;
     bool r6_0_in;
     v0 = *a0 == 0u;
-    switch (a0[168]) {
+    switch (a0[160]) {
     default: {
         trap();
         return 0;
@@ -5046,7 +5075,7 @@ static bool host_poll(uint8_t *a0)
         goto mmc_host_work_Work_micros_exit;
     }
     case 3u: {
-        r5_0 = (uint32_t)umin64((uint64_t)load32(a0 + 172) * 16000u, UINT64_C(0x350c1400)) + UINT32_C(0x98d500);
+        r5_0 = (uint32_t)umin64((uint64_t)load32(a0 + 164) * 16000u, UINT64_C(0x350c1400)) + UINT32_C(0x98d500);
         goto mmc_host_work_Work_micros_exit;
     }
     }
@@ -5062,12 +5091,12 @@ mmc_host_work_Work_micros_exit: {
     Stream_ask(a0 + 4, r17, 5u, r5, 4u);
     uint32_t v4 = load32_aligned(r5);
     r6_0_in = v4 != 0u;
-    goto mmc_host_host_bus_HostBusBus_busy_aa513fd246906337_exit;
+    goto mmc_host_host_bus_HostBusBus_busy_d568f3fc8d51bff2_exit;
 }
 join_5: {
-    uint32_t r18 = CRegistersRegisters_read32(a0 + 4, 36u);
-    if (!((r18 & UINT32_C(0x100000)) == 0u)) {
-        goto mmc_sdhci_sdhci_SdhciHost_is_busy_a418df33b11c0b05_exit;
+    uint32_t r6 = CRegistersRegisters_read32(a0 + 4, 36u);
+    if (!((r6 & UINT32_C(0x100000)) == 0u)) {
+        goto mmc_sdhci_sdhci_SdhciHost_is_busy_d002fd087b3dc1c2_exit;
     }
     Stream_pause(a0 + 4, 10u);
     uint32_t r30 = r0_05 + 1u;
@@ -5077,19 +5106,19 @@ join_5: {
     }
     Stream_pause(a0 + 4, (r10 * UINT32_C(0xfffffff6)) + r5_0);
 }
-mmc_sdhci_sdhci_SdhciHost_is_busy_a418df33b11c0b05_exit: {
-    uint8_t r8 = CRegistersRegisters_read8(a0 + 4, 38u);
+mmc_sdhci_sdhci_SdhciHost_is_busy_d002fd087b3dc1c2_exit: {
+    uint8_t r8 = StoryRegistersRegisters_read8(a0 + 4, 38u);
     r6_0_in = (uint8_t)(r8 & 16u) == 0u;
 }
-mmc_host_host_bus_HostBusBus_busy_aa513fd246906337_exit: {
+mmc_host_host_bus_HostBusBus_busy_d568f3fc8d51bff2_exit: {
     *r4 = 3u;
     r4[1] = (uint8_t)r6_0_in;
-    Wire_note(a0 + 96, r4);
+    Wire_note(a0 + 88, r4);
     return r6_0_in;
 }
 }
 
-/* mmc_bus::status::confirm::<#bbb6b08ee4b3c338> */
+/* mmc_bus::status::confirm::<#1bed76fd314cf36e> */
 static struct of_i8_i8 status_confirm(uint8_t *a0, uint8_t a1, uint16_t a2)
 {
     struct of_i8_i8 r13 = status_ask_closing(a0, a1, a2);
@@ -5102,7 +5131,7 @@ static struct of_i8_i8 status_confirm(uint8_t *a0, uint8_t a1, uint16_t a2)
     return r37_fca_1_insert;
 }
 
-/* mmc_bus::status::ask_closing::<#bbb6b08ee4b3c338> */
+/* mmc_bus::status::ask_closing::<#1bed76fd314cf36e> */
 static struct of_i8_i8 status_ask_closing(uint8_t *a0, uint8_t a1, uint16_t a2)
 {
     KELIFANDRO_ROOM uint8_t r2[8];
@@ -5144,7 +5173,7 @@ return_5: {
 }
 }
 
-/* mmc_recovery::reopening::reset::<#bbb6b08ee4b3c338> */
+/* mmc_recovery::reopening::reset::<#1bed76fd314cf36e> */
 static void reopening_reset(uint8_t *a0, uint8_t *a1, uint8_t *a2)
 {
     KELIFANDRO_ROOM uint8_t r2[176];
@@ -5237,7 +5266,7 @@ common_ret: {
 }
 }
 
-/* mmc_switch::initialization::initialize::<#bbb6b08ee4b3c338> */
+/* mmc_switch::initialization::initialize::<#1bed76fd314cf36e> */
 static void initialization_initialize(uint8_t *a0, uint8_t *a1)
 {
     KELIFANDRO_ROOM uint8_t room[512];
@@ -5366,13 +5395,13 @@ static void initialization_initialize(uint8_t *a0, uint8_t *a1)
     }
     host_ask(r2_2, a1, 16u, 512u);
     if (*r2_2 != 0u) {
-        goto mmc_switch_widening_widen_bbb6b08ee4b3c338_exit_thread;
+        goto mmc_switch_widening_widen_1bed76fd314cf36e_exit_thread;
     }
     uint32_t v4 = load32_aligned(r2_2 + 4);
     if ((v4 & ((r4_6_pre == 0u) ? UINT32_C(0xfd39a000) : UINT32_C(0xfd39a080))) == 0u) {
         goto join_4_2;
     }
-mmc_switch_widening_widen_bbb6b08ee4b3c338_exit_thread: {
+mmc_switch_widening_widen_1bed76fd314cf36e_exit_thread: {
     r7_9_0_0 = 0u; /* any */
     r7_9_2_0 = 0u;
     r7_9_3_0 = 0u; /* any */
@@ -5404,48 +5433,48 @@ join_4_2: {
         uint8_t r7 = sd_announce_2(a1, r24);
         if (r7 != 0u) {
             r1_8_0_ph = 0u;
-            goto mmc_switch_widening_widen_bbb6b08ee4b3c338_exit_thread1;
+            goto mmc_switch_widening_widen_1bed76fd314cf36e_exit_thread1;
         }
         host_ask(r7_2, a1, 51u, 0u);
         if (*r7_2 != 0u) {
-            goto mmc_switch_sd_read_scr_bbb6b08ee4b3c338_exit_thread46;
+            goto mmc_switch_sd_read_scr_1bed76fd314cf36e_exit_thread46;
         }
         if (!((load32_aligned(r7_2 + 4) & UINT32_C(0xfd39a000)) == 0u)) {
-            goto mmc_switch_sd_read_scr_bbb6b08ee4b3c338_exit_thread46;
+            goto mmc_switch_sd_read_scr_1bed76fd314cf36e_exit_thread46;
         }
         store64_aligned(r2_3, 0u);
         uint8_t r43 = data_receive(a1, r2_3, 8u);
         if (r43 != 0u) {
-            goto mmc_switch_sd_read_scr_bbb6b08ee4b3c338_exit_thread46;
+            goto mmc_switch_sd_read_scr_1bed76fd314cf36e_exit_thread46;
         }
         r130 = bswap64(load64_aligned(r2_3));
         if ((r130 & UINT64_C(0x4000000000000)) == 0u) {
             r0_3_0_ph = 0u;
             goto arm_5;
         }
-        if (a1[98] == 0u) {
+        if (a1[90] == 0u) {
             r0_3_0_ph = 0u;
             goto arm_5;
         }
         uint8_t r12 = sd_announce_2(a1, r24);
         if (r12 != 0u) {
             r1_8_0_ph = 0u;
-            goto mmc_switch_widening_widen_bbb6b08ee4b3c338_exit_thread1;
+            goto mmc_switch_widening_widen_1bed76fd314cf36e_exit_thread1;
         }
         host_ask(r2_4, a1, 6u, 2u);
         uint8_t v16 = *r2_4;
         uint32_t v18 = load32_aligned(r2_4 + 4);
         if (!((v16 == 0u) && ((v18 & UINT32_C(0xfd39a000)) == 0u))) {
             r1_8_0_ph = 0u;
-            goto mmc_switch_widening_widen_bbb6b08ee4b3c338_exit_thread1;
+            goto mmc_switch_widening_widen_1bed76fd314cf36e_exit_thread1;
         }
-        a1[96] = 1u;
-        a1[97] = 0u;
+        a1[88] = 1u;
+        a1[89] = 0u;
         r0_3_0_ph = 1u;
         goto arm_5;
     }
-    r0_0_0 = a1[98];
-    uint8_t r0_2_0 = a1[99];
+    r0_0_0 = a1[90];
+    uint8_t r0_2_0 = a1[91];
     host_ask(r7_3, a1, 8u, 0u);
     if (*r7_3 != 0u) {
         goto arm_2_6;
@@ -5492,18 +5521,18 @@ join_4_2: {
     v76 = (uint8_t)((uint8_t)((uint32_t)r14_8_7_4_0 >> 4u) & 1u);
     if ((r14_8_2_0 < 5u) || (r14_8_6_0 == 0u)) {
         r1_8_2_ph = 1u;
-        goto mmc_switch_widening_widen_bbb6b08ee4b3c338_exit_thread60;
+        goto mmc_switch_widening_widen_1bed76fd314cf36e_exit_thread60;
     }
     if (!((r16 != 1u) || (r14_8_4_0 != 0u))) {
         r1_8_2_ph = 1u;
-        goto mmc_switch_widening_widen_bbb6b08ee4b3c338_exit_thread60;
+        goto mmc_switch_widening_widen_1bed76fd314cf36e_exit_thread60;
     }
     v78 = (uint64_t)r14_8_4_0;
     r80 = load16_aligned(r2 + 2);
     struct of_i8_i8 r6_21 = mmc_switch(a1, r80, UINT32_C(0x3af0100));
     if (r6_21.f0 != 0u) {
         r1_8_2_ph = 0u;
-        goto mmc_switch_widening_widen_bbb6b08ee4b3c338_exit_thread60;
+        goto mmc_switch_widening_widen_1bed76fd314cf36e_exit_thread60;
     }
     if (r0_0_0 == 0u) {
         goto arm_6_25;
@@ -5511,15 +5540,15 @@ join_4_2: {
     struct of_i8_i8 r16_2 = mmc_switch(a1, r80, ((uint32_t)r0_0_0 << 8u) | UINT32_C(0x3b70000));
     if (r16_2.f0 != 0u) {
         r1_8_2_ph = 0u;
-        goto mmc_switch_widening_widen_bbb6b08ee4b3c338_exit_thread60;
+        goto mmc_switch_widening_widen_1bed76fd314cf36e_exit_thread60;
     }
-    a1[96] = r0_0_0;
-    a1[97] = 0u;
+    a1[88] = r0_0_0;
+    a1[89] = 0u;
     goto arm_6_25;
 }
 arm_2_6: {
     r1_8_2_ph = 0u;
-    goto mmc_switch_widening_widen_bbb6b08ee4b3c338_exit_thread60;
+    goto mmc_switch_widening_widen_1bed76fd314cf36e_exit_thread60;
 }
 arm_6_25: {
     if (v39 == 0u) {
@@ -5528,10 +5557,10 @@ arm_6_25: {
     struct of_i8_i8 r12_2 = mmc_switch(a1, r80, UINT32_C(0x3b90100));
     if (r12_2.f0 != 0u) {
         r1_8_2_ph = 0u;
-        goto mmc_switch_widening_widen_bbb6b08ee4b3c338_exit_thread60;
+        goto mmc_switch_widening_widen_1bed76fd314cf36e_exit_thread60;
     }
-    a1[96] = r0_0_0;
-    a1[97] = 1u;
+    a1[88] = r0_0_0;
+    a1[89] = 1u;
 }
 arm_8: {
     r21 = r2[32];
@@ -5552,7 +5581,7 @@ mmc_switch_registers_mmc_info_exit: {
         a0_11_283288296 = 0u;
         a0_14_289295 = 0u;
         common_ret_op = 0u;
-        goto mmc_switch_widening_widen_bbb6b08ee4b3c338_exit;
+        goto mmc_switch_widening_widen_1bed76fd314cf36e_exit;
     }
     uint64_t r24_139 = (v50 * pre) * v52;
     uint64_t r24_110 = (v59 * pre) * v52;
@@ -5562,7 +5591,7 @@ mmc_switch_registers_mmc_info_exit: {
     a0_14_289295 = (r24_110 > v) ? 0u : r24_110;
     common_ret_op = (v73 * pre) * v52;
 }
-mmc_switch_widening_widen_bbb6b08ee4b3c338_exit: {
+mmc_switch_widening_widen_1bed76fd314cf36e_exit: {
     u128 r4_0_15 = load128_aligned(r2 + 48);
     memcpy(r0_4 + 12, r5 + 32, 16);
     sink80_phi = r5 + 64;
@@ -5586,7 +5615,7 @@ mmc_switch_widening_widen_bbb6b08ee4b3c338_exit: {
     r1_5522_0_r1_5522_0_r1_5522_160_r0_6_160_41 = r14_8_0_16_0;
     goto arm_5_2;
 }
-mmc_switch_widening_widen_bbb6b08ee4b3c338_exit_thread60: {
+mmc_switch_widening_widen_1bed76fd314cf36e_exit_thread60: {
     r7_9_0_0 = 1u;
     r7_9_2_0 = r16;
     r7_9_3_0 = 0u; /* any */
@@ -5610,16 +5639,16 @@ mmc_switch_widening_widen_bbb6b08ee4b3c338_exit_thread60: {
     r7_11_0 = 0u; /* any */
     goto join_4;
 }
-mmc_switch_sd_read_scr_bbb6b08ee4b3c338_exit_thread46: {
+mmc_switch_sd_read_scr_1bed76fd314cf36e_exit_thread46: {
     r1_8_0_ph = 0u;
-    goto mmc_switch_widening_widen_bbb6b08ee4b3c338_exit_thread1;
+    goto mmc_switch_widening_widen_1bed76fd314cf36e_exit_thread1;
 }
 arm_5: {
     if (!(r2_0_in && ((r130 & UINT64_C(0xf00000000000000)) != 0u))) {
         r3_3_0_62 = 0u;
         goto arm_8_2;
     }
-    if (a1[99] != 1u) {
+    if (a1[91] != 1u) {
         r3_3_0_62 = 0u;
         goto arm_8_2;
     }
@@ -5637,18 +5666,18 @@ arm_5: {
     }
     if (!((uint8_t)(r7_1[17] & 15u) == 1u)) {
         r0_3_0_ph_2 = 0u;
-        goto mmc_switch_sd_set_timing_bbb6b08ee4b3c338_exit_thread75;
+        goto mmc_switch_sd_set_timing_1bed76fd314cf36e_exit_thread75;
     }
-    a1[96] = r0_3_0_ph;
-    a1[97] = 1u;
+    a1[88] = r0_3_0_ph;
+    a1[89] = 1u;
     r0_3_0_ph_2 = 1u;
-    goto mmc_switch_sd_set_timing_bbb6b08ee4b3c338_exit_thread75;
+    goto mmc_switch_sd_set_timing_1bed76fd314cf36e_exit_thread75;
 }
 arm_9: {
     r1_8_0_ph = 0u;
-    goto mmc_switch_widening_widen_bbb6b08ee4b3c338_exit_thread1;
+    goto mmc_switch_widening_widen_1bed76fd314cf36e_exit_thread1;
 }
-mmc_switch_sd_set_timing_bbb6b08ee4b3c338_exit_thread75: {
+mmc_switch_sd_set_timing_1bed76fd314cf36e_exit_thread75: {
     r3_3_0_62_ph = r0_3_0_ph_2;
 }
 arm_8_sink_split: {
@@ -5658,7 +5687,7 @@ arm_8_2: {
     struct of_i8_i8 r82 = status_confirm(a1, 0u, r24);
     if (r82.f0 != 0u) {
         r1_8_0_ph = 0u;
-        goto mmc_switch_widening_widen_bbb6b08ee4b3c338_exit_thread1;
+        goto mmc_switch_widening_widen_1bed76fd314cf36e_exit_thread1;
     }
     r3 = r2[32];
     switch (r3) {
@@ -5668,24 +5697,24 @@ arm_8_2: {
     }
     case 2u: {
         r1_8_0_ph = 1u;
-        goto mmc_switch_widening_widen_bbb6b08ee4b3c338_exit_thread1;
+        goto mmc_switch_widening_widen_1bed76fd314cf36e_exit_thread1;
     }
     case 0u: {
         if (!u128_eq(u128_and(r4_0, u128_of(0u, UINT64_C(0x400000000000))), u128_of(0u, 0u))) {
             r1_3_2_0 = 1u;
-            goto mmc_switch_widening_widen_bbb6b08ee4b3c338_exit_thread21;
+            goto mmc_switch_widening_widen_1bed76fd314cf36e_exit_thread21;
         }
         uint64_t v25 = (uint64_t)r4_0.lo;
         r1_3_2_0 = ((uint64_t)((uint64_t)(v25 >> 39u) & 127u) + 1u) << (((uint64_t)((uint64_t)((uint64_t)(v25 >> 22u) & 15u) + 247u) & 255u) & 63u);
-        goto mmc_switch_widening_widen_bbb6b08ee4b3c338_exit_thread21;
+        goto mmc_switch_widening_widen_1bed76fd314cf36e_exit_thread21;
     }
     case 1u: {
         r1_3_2_0 = 1u;
-        goto mmc_switch_widening_widen_bbb6b08ee4b3c338_exit_thread21;
+        goto mmc_switch_widening_widen_1bed76fd314cf36e_exit_thread21;
     }
     }
 }
-mmc_switch_widening_widen_bbb6b08ee4b3c338_exit_thread21: {
+mmc_switch_widening_widen_1bed76fd314cf36e_exit_thread21: {
     memcpy(r1_28, r5 + 64, 16);
     uint64_t r7_7 = Csd_sectors(r2 + 32);
     sink80_phi = r5 + 32;
@@ -5733,7 +5762,7 @@ arm_5_2: {
     r7_11_0 = r1_5522_0_r1_5522_0_r1_5522_160_r0_6_160_41;
     goto join_4;
 }
-mmc_switch_widening_widen_bbb6b08ee4b3c338_exit_thread1: {
+mmc_switch_widening_widen_1bed76fd314cf36e_exit_thread1: {
     r7_9_0_0 = 0u;
     r7_9_2_0 = r16;
     r7_9_3_0 = r24;
@@ -5786,7 +5815,7 @@ join_4: {
 }
 }
 
-/* mmc_identify::identification::identify::<#bbb6b08ee4b3c338> */
+/* mmc_identify::identification::identify::<#1bed76fd314cf36e> */
 static void identification_identify(uint8_t *a0, uint8_t *a1)
 {
     KELIFANDRO_ROOM uint8_t room[80];
@@ -5839,8 +5868,8 @@ static void identification_identify(uint8_t *a0, uint8_t *a1)
     u128 r0_40_0;
     uint8_t r49_pn_ph;
     shared_go_idle(a1);
-    a1[96] = 0u;
-    a1[97] = 0u;
+    a1[88] = 0u;
+    a1[89] = 0u;
     host_ask(r1, a1, 8u, 426u);
     v0 = *r1 == 0u;
     if (!v0) {
@@ -5910,11 +5939,11 @@ join_5_2: {
     uint8_t r23 = r14.f1;
     if (r14.f0 != 0u) {
         r8_4_0_ph = r23;
-        goto mmc_identify_sd_inquire_again_bbb6b08ee4b3c338_exit_thread;
+        goto mmc_identify_sd_inquire_again_1bed76fd314cf36e_exit_thread;
     }
     if (!((r23 & 1u) != 0)) {
         r8_4_0_ph = 0u;
-        goto mmc_identify_sd_inquire_again_bbb6b08ee4b3c338_exit_thread;
+        goto mmc_identify_sd_inquire_again_1bed76fd314cf36e_exit_thread;
     }
     sd_inquire(r0_2, a1, v0);
     uint8_t v5 = *r0_2;
@@ -5936,7 +5965,7 @@ join_5_2: {
     r16_3_0_ph = 0u;
     goto arm_9;
 }
-mmc_identify_sd_inquire_again_bbb6b08ee4b3c338_exit_thread: {
+mmc_identify_sd_inquire_again_1bed76fd314cf36e_exit_thread: {
     r16_3_0_ph = r8_4_0_ph;
 }
 arm_9: {
@@ -6031,11 +6060,11 @@ join_5_3: {
     store32_aligned(r2_3 + 4, v32);
     if (v30 != 0u) {
         r0_4_0_ph = 0u;
-        goto mmc_identify_shared_ask_status_bbb6b08ee4b3c338_exit_thread;
+        goto mmc_identify_shared_ask_status_1bed76fd314cf36e_exit_thread;
     }
     if (!((v32 & UINT32_C(0x2000000)) == 0u)) {
         r0_4_0_ph = 4u;
-        goto mmc_identify_shared_ask_status_bbb6b08ee4b3c338_exit_thread;
+        goto mmc_identify_shared_ask_status_1bed76fd314cf36e_exit_thread;
     }
     struct of_i8_i8 r42 = status_check_closing(r14_4_0, r2_3);
     if (r42.f0 != 0u) {
@@ -6148,7 +6177,7 @@ join_5_3: {
     }
     }
 }
-mmc_identify_shared_ask_status_bbb6b08ee4b3c338_exit_thread: {
+mmc_identify_shared_ask_status_1bed76fd314cf36e_exit_thread: {
     r49_pn_ph = r0_4_0_ph;
     goto arm_9_2;
 }
@@ -6180,7 +6209,7 @@ common_ret: {
 }
 }
 
-/* mmc_identify::shared::go_idle::<#bbb6b08ee4b3c338> */
+/* mmc_identify::shared::go_idle::<#1bed76fd314cf36e> */
 static void shared_go_idle(uint8_t *a0)
 {
     KELIFANDRO_ROOM uint8_t r0[18];
@@ -6190,7 +6219,7 @@ static void shared_go_idle(uint8_t *a0)
     return;
 }
 
-/* mmc_identify::sd::announce::<#bbb6b08ee4b3c338> */
+/* mmc_identify::sd::announce::<#1bed76fd314cf36e> */
 static struct of_i8_i8 sd_announce(uint8_t *a0)
 {
     KELIFANDRO_ROOM uint8_t r1[8];
@@ -6203,7 +6232,7 @@ static struct of_i8_i8 sd_announce(uint8_t *a0)
     return r18_fca_1_insert;
 }
 
-/* mmc_identify::sd::inquire::<#bbb6b08ee4b3c338> */
+/* mmc_identify::sd::inquire::<#1bed76fd314cf36e> */
 static void sd_inquire(uint8_t *a0, uint8_t *a1, bool a2)
 {
     KELIFANDRO_ROOM uint8_t r0[12];
@@ -6217,7 +6246,7 @@ static void sd_inquire(uint8_t *a0, uint8_t *a1, bool a2)
     return;
 }
 
-/* mmc_bus::host::ask_ocr::<#bbb6b08ee4b3c338> */
+/* mmc_bus::host::ask_ocr::<#1bed76fd314cf36e> */
 static void host_ask_ocr(uint8_t *a0, uint8_t *a1, uint8_t a2, uint32_t a3)
 {
     KELIFANDRO_ROOM uint8_t r4[18];
@@ -6297,7 +6326,7 @@ common_ret: {
 }
 }
 
-/* mmc_bus::host::ask_register::<#bbb6b08ee4b3c338> */
+/* mmc_bus::host::ask_register::<#1bed76fd314cf36e> */
 static void host_ask_register(uint8_t *a0, uint8_t *a1, uint8_t a2, uint32_t a3)
 {
     KELIFANDRO_ROOM uint8_t r2[18];
@@ -6357,7 +6386,7 @@ mmc_bus_host_register_in_exit: {
 }
 }
 
-/* mmc_switch::sd::announce::<#bbb6b08ee4b3c338> */
+/* mmc_switch::sd::announce::<#1bed76fd314cf36e> */
 static uint8_t sd_announce_2(uint8_t *a0, uint16_t a1)
 {
     KELIFANDRO_ROOM uint8_t r2[8];
@@ -6365,7 +6394,7 @@ static uint8_t sd_announce_2(uint8_t *a0, uint16_t a1)
     return (uint8_t)((*r2 != 0u) || ((load32_aligned(r2 + 4) & UINT32_C(0xfd39a000)) != 0u));
 }
 
-/* mmc_bus::data::receive::<#bbb6b08ee4b3c338> */
+/* mmc_bus::data::receive::<#1bed76fd314cf36e> */
 static uint8_t data_receive(uint8_t *a0, uint8_t *a1, uint64_t a2)
 {
     KELIFANDRO_ROOM uint8_t room[36];
@@ -6374,44 +6403,44 @@ static uint8_t data_receive(uint8_t *a0, uint8_t *a1, uint64_t a2)
     KELIFANDRO_ROOM uint8_t r13[36];
     uint8_t r5_0_0;
     uint8_t r0_0_0;
-    if (a0[152] != a0[96]) {
+    if (a0[144] != a0[88]) {
         goto then_1;
     }
-    if (a0[153] != a0[97]) {
+    if (a0[145] != a0[89]) {
         goto then_1;
     }
-    if (!((a0[160] == 1u) && (a2 == (uint64_t)load16(a0 + 162)))) {
+    if (!((a0[152] == 1u) && (a2 == (uint64_t)load16(a0 + 154)))) {
         goto then_1;
     }
     if (*a0 != 0u) {
         uint8_t r36 = SdhciHost_read_block(a0 + 4, a1, a2);
         r5_0_0 = r36;
-        goto mmc_story_host_StoryHostHost_read_block_4c4a06f79826ed18_exit;
+        goto c_host_way_WayHost_read_block_b4302b8119c90b07_exit;
     }
     uint64_t r25 = io_read_full(load32_aligned(a0 + 4), a1, a2);
     r5_0_0 = (uint8_t)((r25 == a2) ? 0u : (uint8_t)((r25 == 0u) ? 2u : 1u));
-    goto mmc_story_host_StoryHostHost_read_block_4c4a06f79826ed18_exit;
+    goto c_host_way_WayHost_read_block_b4302b8119c90b07_exit;
 then_1: {
-    a0[188] = 1u;
+    a0[180] = 1u;
     r0_0_0 = 2u;
-    goto mmc_bus_host_read_block_bbb6b08ee4b3c338_exit;
+    goto mmc_bus_host_read_block_1bed76fd314cf36e_exit;
 }
-mmc_story_host_StoryHostHost_read_block_4c4a06f79826ed18_exit: {
-    memcpy(r13, a0 + 152, 36);
+c_host_way_WayHost_read_block_b4302b8119c90b07_exit: {
+    memcpy(r13, a0 + 144, 36);
     HostState_block_passed(r12, r13, r5_0_0 == 0u);
-    memcpy(a0 + 152, r12, 36);
+    memcpy(a0 + 144, r12, 36);
     r0_0_0 = r5_0_0;
 }
-mmc_bus_host_read_block_bbb6b08ee4b3c338_exit: {
+mmc_bus_host_read_block_1bed76fd314cf36e_exit: {
     *r9 = 1u;
     store64_aligned(r9 + 8, a2);
     r9[16] = r0_0_0;
-    Wire_note(a0 + 96, r9);
+    Wire_note(a0 + 88, r9);
     return (uint8_t)(r0_0_0 != 0u);
 }
 }
 
-/* mmc_sdhci::sdhci::SdhciHost::read_block::<#a418df33b11c0b05> */
+/* mmc_sdhci::sdhci::SdhciHost::read_block::<#d002fd087b3dc1c2> */
 static uint8_t SdhciHost_read_block(uint8_t *a0, uint8_t *a1, uint64_t a2)
 {
     KELIFANDRO_ROOM uint8_t room[36];
@@ -6430,7 +6459,7 @@ static uint8_t SdhciHost_read_block(uint8_t *a0, uint8_t *a1, uint64_t a2)
     if (*r11 != 1u) {
         command_reset_data(a0);
         r0_0_0 = 2u;
-        goto mmc_sdhci_data_read_block_a418df33b11c0b05_exit;
+        goto mmc_sdhci_data_read_block_d002fd087b3dc1c2_exit;
     }
     uint32_t r10_21_0 = load32_aligned(r11 + 8);
     if ((uint32_t)(r10_21_0 & 32768u) == 0u) {
@@ -6456,7 +6485,7 @@ static uint8_t SdhciHost_read_block(uint8_t *a0, uint8_t *a1, uint64_t a2)
     }
     command_reset_data(a0);
     r0_0_0 = (uint8_t)(((r10_21_0 & UINT32_C(0x600000)) == 0u) ? 2u : 1u);
-    goto mmc_sdhci_data_read_block_a418df33b11c0b05_exit;
+    goto mmc_sdhci_data_read_block_d002fd087b3dc1c2_exit;
 join_5_sink_split: {
     r10_0_0_shrunk = r1_2_1_1 != 1u;
 }
@@ -6465,20 +6494,20 @@ mmc_sdhci_following_following_of_exit: {
     if (*r3 != 1u) {
         command_reset_data(a0);
         r0_0_0_2 = 2u;
-        goto mmc_sdhci_data_see_good_a418df33b11c0b05_exit;
+        goto mmc_sdhci_data_see_good_d002fd087b3dc1c2_exit;
     }
     uint32_t r2_21_0 = load32_aligned(r3 + 8);
     if ((uint32_t)(r2_21_0 & 32768u) == 0u) {
         r0_0_0_2 = 0u;
-        goto mmc_sdhci_data_see_good_a418df33b11c0b05_exit;
+        goto mmc_sdhci_data_see_good_d002fd087b3dc1c2_exit;
     }
     command_reset_data(a0);
     r0_0_0_2 = (uint8_t)(((r2_21_0 & UINT32_C(0x600000)) == 0u) ? 2u : 1u);
 }
-mmc_sdhci_data_see_good_a418df33b11c0b05_exit: {
+mmc_sdhci_data_see_good_d002fd087b3dc1c2_exit: {
     r0_0_0 = r0_0_0_2;
 }
-mmc_sdhci_data_read_block_a418df33b11c0b05_exit: {
+mmc_sdhci_data_read_block_d002fd087b3dc1c2_exit: {
     memcpy(r10, a0 + 32, 36);
     HostState_block_passed(r9, r10, r0_0_0 == 0u);
     memcpy(a0 + 32, r9, 36);
@@ -6486,14 +6515,14 @@ mmc_sdhci_data_read_block_a418df33b11c0b05_exit: {
 }
 }
 
-/* mmc_sdhci::watching::watch::<#a418df33b11c0b05> */
+/* mmc_sdhci::watching::watch::<#d002fd087b3dc1c2> */
 static void watching_watch(uint8_t *a0, uint8_t *a1, uint8_t a2, uint8_t a3)
 {
     uint32_t v;
     uint8_t r6_0_in_off0_in_v;
     bool v0;
     uint32_t r3_016;
-    uint32_t r6;
+    uint32_t r6_6;
     bool r6_0_in_off0_lcssa;
     bool switch_2 = a2 < 2u;
     v = switch_2 ? 2980u : 10980u;
@@ -6501,10 +6530,10 @@ static void watching_watch(uint8_t *a0, uint8_t *a1, uint8_t a2, uint8_t a3)
     v0 = a3 == 0u;
     r3_016 = 0u;
 join_5: {
-    uint8_t r14 = CRegistersRegisters_read8(a1, 37u);
+    uint8_t r14 = StoryRegistersRegisters_read8(a1, 37u);
     bool r6_0_in_off0 = (uint8_t)(r14 & r6_0_in_off0_in_v) != 0u;
-    r6 = Stream_read_register(a1, 4u, 48u);
-    if (!((uint32_t)(r6 & 32768u) == 0u)) {
+    r6_6 = Stream_read_register(a1, 4u, 48u);
+    if (!((uint32_t)(r6_6 & 32768u) == 0u)) {
         r6_0_in_off0_lcssa = r6_0_in_off0;
         goto then_6;
     }
@@ -6523,7 +6552,7 @@ join_5: {
     }
     case 1u:
     case 3u: {
-        if (v0 ? ((uint32_t)(r6 & 2u) != 0u) : r6_0_in_off0) {
+        if (v0 ? ((uint32_t)(r6_6 & 2u) != 0u) : r6_0_in_off0) {
             r6_0_in_off0_lcssa = r6_0_in_off0;
             goto then_6;
         }
@@ -6544,7 +6573,7 @@ join_8: {
 then_6: {
     store32(a0, 1u);
     a0[4] = (uint8_t)r6_0_in_off0_lcssa;
-    store32(a0 + 8, r6);
+    store32(a0 + 8, r6_6);
 }
 common_ret: {
     return;
@@ -6633,7 +6662,7 @@ join_3: {
 }
 }
 
-/* mmc_switch::sd::switch_func::<#bbb6b08ee4b3c338> */
+/* mmc_switch::sd::switch_func::<#1bed76fd314cf36e> */
 static void sd_switch_func(uint8_t *a0, uint8_t *a1, uint32_t a2)
 {
     KELIFANDRO_ROOM uint8_t room[64];
@@ -6700,7 +6729,7 @@ join_5: {
 }
 }
 
-/* mmc_switch::mmc::switch::<#bbb6b08ee4b3c338> */
+/* mmc_switch::mmc::switch::<#1bed76fd314cf36e> */
 static struct of_i8_i8 mmc_switch(uint8_t *a0, uint16_t a1, uint32_t a2)
 {
     KELIFANDRO_ROOM uint8_t room[16];
@@ -6724,14 +6753,14 @@ static struct of_i8_i8 mmc_switch(uint8_t *a0, uint16_t a1, uint32_t a2)
     if (*r6 != 0u) {
         r0_0_0_2 = 1u;
         r0_4_0_pn = r6[1];
-        goto mmc_bus_status_wait_and_confirm_bbb6b08ee4b3c338_exit;
+        goto mmc_bus_status_wait_and_confirm_1bed76fd314cf36e_exit;
     }
     uint64_t r1_4_8 = load64_aligned(r6 + 8);
     r24 = 16u - r1_4_8;
     if (r1_4_8 == 16u) {
         r0_0_0_2 = 1u;
         r0_4_0_pn = 2u;
-        goto mmc_bus_status_wait_and_confirm_bbb6b08ee4b3c338_exit;
+        goto mmc_bus_status_wait_and_confirm_1bed76fd314cf36e_exit;
     }
     r2_05 = 0u;
 join_5: {
@@ -6740,23 +6769,23 @@ join_5: {
     if (r19.f0 != 0u) {
         r0_0_0_2 = 1u;
         r0_4_0_pn = r28;
-        goto mmc_bus_status_wait_and_confirm_bbb6b08ee4b3c338_exit;
+        goto mmc_bus_status_wait_and_confirm_1bed76fd314cf36e_exit;
     }
     if (r28 == 0u) {
         r0_0_0_2 = 0u;
         r0_4_0_pn = 0u; /* any */
-        goto mmc_bus_status_wait_and_confirm_bbb6b08ee4b3c338_exit;
+        goto mmc_bus_status_wait_and_confirm_1bed76fd314cf36e_exit;
     }
     uint64_t r41 = r2_05 + 1u;
     if (r41 == r24) {
         r0_0_0_2 = 1u;
         r0_4_0_pn = 2u;
-        goto mmc_bus_status_wait_and_confirm_bbb6b08ee4b3c338_exit;
+        goto mmc_bus_status_wait_and_confirm_1bed76fd314cf36e_exit;
     }
     r2_05 = r41;
     goto join_5;
 }
-mmc_bus_status_wait_and_confirm_bbb6b08ee4b3c338_exit: {
+mmc_bus_status_wait_and_confirm_1bed76fd314cf36e_exit: {
     r0_0_0 = r0_0_0_2;
     r0_4_0_pn_pn = r0_4_0_pn;
 }
@@ -6958,7 +6987,7 @@ join_4: {
 }
 }
 
-/* mmc_sdhci::sdhci::Sdhci::move_blocks::<#a418df33b11c0b05> */
+/* mmc_sdhci::sdhci::Sdhci::move_blocks::<#d002fd087b3dc1c2> */
 static void Sdhci_move_blocks(uint8_t *a0, uint8_t *a1, uint8_t *a2, uint64_t a3, uint64_t a4)
 {
     KELIFANDRO_ROOM uint8_t room[36];
@@ -6975,7 +7004,7 @@ static void Sdhci_move_blocks(uint8_t *a0, uint8_t *a1, uint8_t *a2, uint64_t a3
     uint8_t r11_0_0;
     uint8_t r11_2_0;
     bool r29;
-    uint16_t v3;
+    uint16_t v;
     uint16_t r16;
     uint64_t r11;
     uint32_t v4;
@@ -6985,7 +7014,7 @@ static void Sdhci_move_blocks(uint8_t *a0, uint8_t *a1, uint8_t *a2, uint64_t a3
     uint64_t v7;
     uint16_t v10;
     uint16_t v11;
-    uint32_t r1_013;
+    uint32_t r1_014;
     uint8_t r0_4_0_50;
     uint8_t r0_0_0_48;
     memcpy(r1, a2, 16);
@@ -7001,13 +7030,13 @@ static void Sdhci_move_blocks(uint8_t *a0, uint8_t *a1, uint8_t *a2, uint64_t a3
     if (!((r48 & UINT32_C(0x80000)) == 0u)) {
         r29 = (a3 + r1_2) > UINT64_C(0x100000000);
         if (!r29) {
-            v3 = 8u;
+            v = 8u;
             goto arm_6;
         }
         if (((uint64_t)(a3 & 7u) != 0u) || ((r48 & UINT32_C(0x10000000)) == 0u)) {
             goto then_4;
         }
-        v3 = 12u;
+        v = 12u;
         goto arm_6;
     }
     if (!((a3 < UINT64_C(0x100000000)) && ((r48 & UINT32_C(0x400000)) != 0u))) {
@@ -7018,11 +7047,11 @@ static void Sdhci_move_blocks(uint8_t *a0, uint8_t *a1, uint8_t *a2, uint64_t a3
     }
     Stream_write_register(a1, 4u, 4u, 28672u);
     Stream_write_register(a1, 4u, 0u, (uint32_t)a3);
-    CRegistersRegisters_write8(a1, 40u, (uint8_t)((uint8_t)((r11_2_0 == 0u) ? 0u : 4u) | (uint8_t)((uint32_t)UINT32_C(0x200200) >> ((((uint32_t)r11_0_0 << 3u) & UINT32_C(0xffffff)) & 31u))));
+    StoryRegistersRegisters_write8(a1, 40u, (uint8_t)((uint8_t)((r11_2_0 == 0u) ? 0u : 4u) | (uint8_t)((uint32_t)UINT32_C(0x200200) >> ((((uint32_t)r11_0_0 << 3u) & UINT32_C(0xffffff)) & 31u))));
     goto join_6;
 arm_6: {
     uint32_t r91 = (r27 + 32767u) >> 15u;
-    r16 = (uint16_t)((uint32_t)v3 * (uint16_t)r91);
+    r16 = (uint16_t)((uint32_t)v * (uint16_t)r91);
     if (load16_aligned(a1 + 18) < r16) {
         goto then_4;
     }
@@ -7043,13 +7072,13 @@ join_5: {
     r6_2[2] = 0u;
     r6_2[3] = (uint8_t)(umin32(r27 - r20, 32768u) >> 8u);
     store64(r6_2 + 4, r29 ? r47 : (uint64_t)(r20 + v4));
-    uint64_t r6_2_0_r6_2_0_r6_2_0_r6_2_0_r6_2_0_r6_2_0_r6_2_0_r6_2_0_r6_2_0_r6_2_0_r6_2_0_r6_2_0_r6_2_0_r6_2_1_r0_2_0_0 = load64_aligned(r6_2);
+    uint64_t r6_2_0_r6_2_0_r6_2_0_r6_2_0_r6_2_0_r6_2_0_r6_2_0_r6_2_0_r6_2_0_r6_2_0_r6_2_0_r6_2_0_r6_2_0_r6_2_0_r6_2_0_r6_2_1_r0_2_0_0 = load64_aligned(r6_2);
     if (!r29) {
-        store64_aligned(r3_4, r6_2_0_r6_2_0_r6_2_0_r6_2_0_r6_2_0_r6_2_0_r6_2_0_r6_2_0_r6_2_0_r6_2_0_r6_2_0_r6_2_0_r6_2_0_r6_2_1_r0_2_0_0);
+        store64_aligned(r3_4, r6_2_0_r6_2_0_r6_2_0_r6_2_0_r6_2_0_r6_2_0_r6_2_0_r6_2_0_r6_2_0_r6_2_0_r6_2_0_r6_2_0_r6_2_0_r6_2_0_r6_2_0_r6_2_1_r0_2_0_0);
         io_write_all(load32_aligned(a1), r3_4, 8u);
         goto c_host_stream_Stream_tell_line_exit;
     }
-    store64_aligned(r4_3, r6_2_0_r6_2_0_r6_2_0_r6_2_0_r6_2_0_r6_2_0_r6_2_0_r6_2_0_r6_2_0_r6_2_0_r6_2_0_r6_2_0_r6_2_0_r6_2_1_r0_2_0_0);
+    store64_aligned(r4_3, r6_2_0_r6_2_0_r6_2_0_r6_2_0_r6_2_0_r6_2_0_r6_2_0_r6_2_0_r6_2_0_r6_2_0_r6_2_0_r6_2_0_r6_2_0_r6_2_0_r6_2_0_r6_2_1_r0_2_0_0);
     store32_aligned(r4_3 + 8, (uint32_t)(r47 >> 32u));
     io_write_all(load32_aligned(a1), r4_3, 12u);
 }
@@ -7065,15 +7094,15 @@ c_host_stream_Stream_lend_table_exit: {
     Stream_ask(a1, (uint8_t *)bytes_static_5, 1u, r2, 8u);
     v7 = load64_aligned(r2);
     if ((v7 == 0u) || (a1[22] != 1u)) {
-        goto c_host_registers_CRegistersRegisters_lend_table_exit;
+        goto sdhci_story_registers_StoryRegistersRegisters_lend_table_52343085cde207f1_exit;
     }
     store16_aligned(a1 + 28, r16);
 }
-c_host_registers_CRegistersRegisters_lend_table_exit: {
+sdhci_story_registers_StoryRegistersRegisters_lend_table_52343085cde207f1_exit: {
     if (!((r29 || (v7 < UINT64_C(0x100000000))) && ((v7 != 0u) && ((uint64_t)(v7 & 7u) == 0u)))) {
         goto then_4;
     }
-    CRegistersRegisters_write8(a1, 40u, (uint8_t)((uint8_t)((uint8_t)((r11_2_0 == 0u) ? 0u : 4u) | (uint8_t)(r29 ? 24u : 16u)) | (uint8_t)((uint32_t)UINT32_C(0x200200) >> ((((uint32_t)r11_0_0 << 3u) & UINT32_C(0xffffff)) & 31u))));
+    StoryRegistersRegisters_write8(a1, 40u, (uint8_t)((uint8_t)((uint8_t)((r11_2_0 == 0u) ? 0u : 4u) | (uint8_t)(r29 ? 24u : 16u)) | (uint8_t)((uint32_t)UINT32_C(0x200200) >> ((((uint32_t)r11_0_0 << 3u) & UINT32_C(0xffffff)) & 31u))));
     Stream_write_register(a1, 4u, 52u, UINT32_C(0x27f0033));
     Stream_write_register(a1, 4u, 88u, (uint32_t)v7);
     Stream_write_register(a1, 4u, 92u, (uint32_t)(v7 >> 32u));
@@ -7096,7 +7125,7 @@ join_6: {
     HostState_sent(r15, r16_2, r1, v12);
     memcpy(a1 + 32, r15, 36);
     if (v12) {
-        r1_013 = 0u;
+        r1_014 = 0u;
         goto join_5_2;
     }
     uint8_t v13 = r3[1];
@@ -7111,22 +7140,22 @@ join_6: {
     goto common_ret;
 }
 join_5_2: {
-    uint32_t r6 = Stream_read_register(a1, 4u, 48u);
-    if (!((uint32_t)(r6 & 32768u) == 0u)) {
+    uint32_t r6_12 = Stream_read_register(a1, 4u, 48u);
+    if (!((uint32_t)(r6_12 & 32768u) == 0u)) {
         command_reset_data(a1);
-        r0_4_0_50 = (uint8_t)(((r6 & UINT32_C(0x600000)) == 0u) ? 2u : 1u);
+        r0_4_0_50 = (uint8_t)(((r6_12 & UINT32_C(0x600000)) == 0u) ? 2u : 1u);
         r0_0_0_48 = 1u;
         goto join_13;
     }
-    if (!((uint32_t)(r6 & 2u) == 0u)) {
+    if (!((uint32_t)(r6_12 & 2u) == 0u)) {
         r0_4_0_50 = 0u; /* any */
         r0_0_0_48 = 0u;
         goto join_13;
     }
-    Stream_pause(a1, (r1_013 < 1000u) ? 1u : 50u);
-    uint32_t r46 = r1_013 + 1u;
+    Stream_pause(a1, (r1_014 < 1000u) ? 1u : 50u);
+    uint32_t r46 = r1_014 + 1u;
     if (r46 != UINT32_C(0x31128)) {
-        r1_013 = r46;
+        r1_014 = r46;
         goto join_5_2;
     }
     command_reset_data(a1);
@@ -7248,7 +7277,7 @@ join_4: {
 }
 }
 
-/* mmc_transfer::steps::step::<#bbb6b08ee4b3c338> */
+/* mmc_transfer::steps::step::<#1bed76fd314cf36e> */
 static void steps_step(uint8_t *a0, uint8_t *a1, uint8_t *a2, uint8_t *a3)
 {
     KELIFANDRO_ROOM uint8_t room[42];
@@ -7438,7 +7467,7 @@ common_ret: {
 }
 }
 
-/* mmc_switch::ending::Ending::step::<#bbb6b08ee4b3c338> */
+/* mmc_switch::ending::Ending::step::<#1bed76fd314cf36e> */
 static void Ending_step(uint8_t *a0, uint8_t a1, uint64_t a2, uint8_t *a3, uint8_t *a4)
 {
     uint8_t r11_0_0;
@@ -7494,7 +7523,7 @@ common_ret: {
 }
 }
 
-/* mmc_sdhci::sdhci::SdhciHost::write_block::<#a418df33b11c0b05> */
+/* mmc_sdhci::sdhci::SdhciHost::write_block::<#d002fd087b3dc1c2> */
 static uint8_t SdhciHost_write_block(uint8_t *a0, uint8_t *a1)
 {
     KELIFANDRO_ROOM uint8_t room[36];
@@ -7511,10 +7540,10 @@ static uint8_t SdhciHost_write_block(uint8_t *a0, uint8_t *a1)
     uint16_t v1 = load16(a0 + 44);
     watching_watch(r2, a0, 2u, 0u);
     if (*r2 != 1u) {
-        goto mmc_sdhci_data_find_room_a418df33b11c0b05_exit;
+        goto mmc_sdhci_data_find_room_d002fd087b3dc1c2_exit;
     }
     if (!((uint32_t)(load32_aligned(r2 + 8) & 32768u) == 0u)) {
-        goto mmc_sdhci_data_find_room_a418df33b11c0b05_exit;
+        goto mmc_sdhci_data_find_room_d002fd087b3dc1c2_exit;
     }
     io_write_all(load32_aligned(a0), a1, 512u);
     switch (r12) {
@@ -7535,10 +7564,10 @@ static uint8_t SdhciHost_write_block(uint8_t *a0, uint8_t *a1)
         goto join_5_sink_split;
     }
     }
-mmc_sdhci_data_find_room_a418df33b11c0b05_exit: {
+mmc_sdhci_data_find_room_d002fd087b3dc1c2_exit: {
     command_reset_data(a0);
     r0_0_0 = 2u;
-    goto mmc_sdhci_data_write_block_a418df33b11c0b05_exit;
+    goto mmc_sdhci_data_write_block_d002fd087b3dc1c2_exit;
 }
 join_5_sink_split: {
     r10_0_0_shrunk = r1_2_1_1 != 1u;
@@ -7550,17 +7579,17 @@ mmc_sdhci_following_following_of_exit: {
     }
     if ((uint32_t)(load32_aligned(r3 + 8) & 32768u) == 0u) {
         r0_0_0_2 = 0u;
-        goto mmc_sdhci_data_see_gone_a418df33b11c0b05_exit;
+        goto mmc_sdhci_data_see_gone_d002fd087b3dc1c2_exit;
     }
 }
 return_5_sink_split: {
     command_reset_data(a0);
     r0_0_0_2 = 2u;
 }
-mmc_sdhci_data_see_gone_a418df33b11c0b05_exit: {
+mmc_sdhci_data_see_gone_d002fd087b3dc1c2_exit: {
     r0_0_0 = r0_0_0_2;
 }
-mmc_sdhci_data_write_block_a418df33b11c0b05_exit: {
+mmc_sdhci_data_write_block_d002fd087b3dc1c2_exit: {
     memcpy(r6, a0 + 32, 36);
     HostState_block_passed(r5, r6, r0_0_0 == 0u);
     memcpy(a0 + 32, r5, 36);
@@ -7568,7 +7597,7 @@ mmc_sdhci_data_write_block_a418df33b11c0b05_exit: {
 }
 }
 
-/* kelifandro::request::erase::<#bbb6b08ee4b3c338> */
+/* kelifandro::request::erase::<#1bed76fd314cf36e> */
 static void request_erase(uint8_t *a0, uint8_t *a1, uint8_t *a2, uint64_t a4, uint64_t a5, uint8_t a6)
 {
     KELIFANDRO_ROOM uint8_t room[224];
@@ -7703,7 +7732,7 @@ loop_2: {
         r1_6_0_ph_sink = v1;
         sink45_phi = r0_10;
         sink = v2;
-        goto mmc_direct_erasing_ErasingRequest_run_bbb6b08ee4b3c338_exit;
+        goto mmc_direct_erasing_ErasingRequest_run_1bed76fd314cf36e_exit;
     }
     }
 }
@@ -7719,7 +7748,7 @@ arm_5: {
     sink45_phi = r0_13;
     sink = 0u;
 }
-mmc_direct_erasing_ErasingRequest_run_bbb6b08ee4b3c338_exit: {
+mmc_direct_erasing_ErasingRequest_run_1bed76fd314cf36e_exit: {
     *sink48_phi = sink47;
     *sink46_phi = r1_6_0_ph_sink;
     *sink45_phi = sink;
@@ -7832,31 +7861,28 @@ mmc_recovery_healed_Healed_met_exit: {
 }
 }
 
-/* c_host::way::Way+Sdhci+R::end::<#c43e8077622d028a> */
-static void R_end(uint8_t *a0, bool a1)
+/* kelifandro::hosts::end::<#fb070baa9c134c3e> */
+static void hosts_end(uint8_t *a0, bool a2)
 {
-    if (*a0 != 1u) {
+    KELIFANDRO_ROOM uint8_t r7[84];
+    if (*a0 == 0u) {
         goto join_4;
     }
-    if (a1) {
-        goto join_3;
+    memcpy(r7, a0 + 4, 84);
+    if (!(a2 || (r7[40] != 0u))) {
+        goto mmc_sdhci_sdhci_Sdhci_end_d002fd087b3dc1c2_exit;
     }
-    if (a0[44] == 0u) {
-        goto mmc_sdhci_sdhci_Sdhci_end_a418df33b11c0b05_exit;
-    }
-join_3: {
-    command_lose_all(a0 + 4);
-}
-mmc_sdhci_sdhci_Sdhci_end_a418df33b11c0b05_exit: {
-    store16(a0 + 44, 0u);
-    CRegisters_give_back(a0 + 4);
+    command_lose_all(r7);
+mmc_sdhci_sdhci_Sdhci_end_d002fd087b3dc1c2_exit: {
+    store16_aligned(r7 + 40, 0u);
+    CRegisters_give_back(r7);
 }
 join_4: {
     return;
 }
 }
 
-/* mmc_sdhci::command::lose_all::<#a418df33b11c0b05> */
+/* mmc_sdhci::command::lose_all::<#d002fd087b3dc1c2> */
 static void command_lose_all(uint8_t *a0)
 {
     command_reset_command(a0);
@@ -7895,63 +7921,69 @@ return_5: {
 }
 }
 
-/* c_host::way::Given+CRegisters::switch_on */
-static void CRegisters_switch_on(uint8_t *a0)
+/* kelifandro::hosts::switch_on */
+static void hosts_switch_on(uint8_t *a0)
 {
-    if (*a0 != 0u) {
+    KELIFANDRO_ROOM uint8_t r2[36];
+    given_given_by(r2, a0);
+    if (*r2 != 0u) {
         goto join_4;
     }
-    if (!((a0[10] & 1u) != 0)) {
-        goto join_4;
-    }
-    Stream_set_power(a0 + 4, true);
+    CFunctions_set_power(r2 + 4, true);
 join_4: {
     return;
 }
 }
 
-/* kelifandro::opening::open_once::<#bdc0d8dae079f39d> */
+/* kelifandro::opening::open_once::<#fb070baa9c134c3e> */
 static uint32_t opening_open_once(uint8_t *a0, uint8_t *a1, uint8_t *a2)
 {
     KELIFANDRO_ROOM uint8_t room[208];
-    uint8_t *const r2_3 = room;
-    uint8_t *const r0 = room;
-    uint8_t *const r3_4 = room;
-    uint8_t *const r5_5 = room;
-    uint8_t *const r9 = room;
-    uint8_t *const r5 = room;
     uint8_t *const r4 = room;
-    uint8_t *const r10_21 = room;
-    uint8_t *const r16 = room + 40;
-    uint8_t *const r4_10_3_5 = room + 40;
+    uint8_t *const r2_2 = room;
+    uint8_t *const r0 = room;
+    uint8_t *const r3_2 = room;
+    uint8_t *const r5 = room;
+    uint8_t *const r9 = room;
+    uint8_t *const r11 = room;
+    uint8_t *const r8_41 = room;
+    uint8_t *const r3 = room + 40;
+    uint8_t *const r25_6_8_0 = room + 40;
+    uint8_t *const r16 = room + 56;
+    uint8_t *const r25_6_4 = room + 56;
     uint8_t *const r1_2 = room + 160;
     uint8_t *const r1_7 = room + 176;
     uint8_t *const r4_8_4 = room + 176;
     uint8_t *const r4_8_9 = room + 192;
-    KELIFANDRO_ROOM uint8_t r2[192];
+    KELIFANDRO_ROOM uint8_t r2[184];
     KELIFANDRO_ROOM uint8_t room_2[104];
     uint8_t *const r1_4 = room_2;
-    uint8_t *const r7_6 = room_2;
+    uint8_t *const r7_3 = room_2;
     KELIFANDRO_ROOM uint8_t r4_8_6[97];
+    uint8_t r1_3_0;
+    uint32_t r1_0_0;
+    uint8_t r1_2_0;
+    uint8_t r3_919_0;
+    uint8_t r3_10_0;
+    uint16_t r3_11_0;
     bool r7;
-    uint32_t r8_0_0;
-    uint8_t r8_7_0;
-    uint8_t r8_8_0;
-    uint32_t r38;
+    uint32_t r6;
     uint8_t r40;
     uint32_t r8;
     uint32_t r3_0;
     uint32_t r1_07;
-    uint32_t r7_3_2_0_ph;
-    uint8_t r3_0_0_pn_speculated;
-    uint8_t r3_3_0_pn_speculated;
-    uint8_t r4_25_0_ph;
-    uint8_t r4_26_0_ph;
-    uint32_t r4_2720_0_ph;
-    uint8_t r4_28_0_ph;
-    uint32_t r4_2921_0_ph;
-    uint32_t r4_6_0_ph;
-    uint8_t r5_0_0;
+    uint32_t r12_3_2_0_ph;
+    uint8_t r0_0_0_pn_speculated;
+    uint8_t r0_2_0_pn_speculated;
+    uint16_t r12_6_8_0;
+    uint8_t r12_6_7_0;
+    uint8_t r12_6_6_0;
+    uint8_t r12_6_9_18_0;
+    uint8_t r12_6_9_19_0;
+    uint32_t r12_6_9_21_0;
+    uint8_t r12_6_9_22_0;
+    uint32_t r12_6_9_24_0;
+    uint32_t r12_3_2_0;
     uint8_t r4_12_03157;
     uint8_t r4_16_03255;
     uint8_t r4_20_03353;
@@ -7981,120 +8013,112 @@ static uint32_t opening_open_once(uint8_t *a0, uint8_t *a1, uint8_t *a2)
     bool r6_0_off0;
     uint32_t v;
     uint32_t r6_0;
-    uint32_t r9_0;
-    given_given_by(r5, a0);
-    r7 = a0[11] == 1u;
-    r8_0_0 = load32_aligned(r5 + 4);
-    r8_7_0 = r5[8];
-    r8_8_0 = r5[9];
-    if (*r5 == 0u) {
+    uint32_t r7_0;
+    given_given_by(r11, a0);
+    r1_3_0 = r11[9];
+    r1_0_0 = load32_aligned(r11 + 4);
+    r1_2_0 = r11[8];
+    if (*r11 == 0u) {
+        memcpy(r3 + 6, r11 + 10, 6);
+        store32_aligned(r3, r1_0_0);
+        r3[4] = r1_2_0;
+        r3[5] = r1_3_0;
         *r16 = 0u;
         r16[1] = 0u;
         r16[2] = 1u;
-        Stream_set_ios(r5 + 4, r16);
-        memcpy(r4_10_3_5, r5 + 10, 6);
-        r3_0_0_pn_speculated = r8_7_0;
-        r3_3_0_pn_speculated = r8_8_0;
-        r4_25_0_ph = 0u; /* any */
-        r4_26_0_ph = 0u; /* any */
-        r4_2720_0_ph = 0u; /* any */
-        r4_28_0_ph = 0u; /* any */
-        r4_2921_0_ph = 0u; /* any */
-        r4_6_0_ph = 0u;
+        CFunctionsHost_set_ios(r3, r16);
+        memcpy(r25_6_4, r11 + 10, 6);
+        r0_0_0_pn_speculated = r1_2_0;
+        r0_2_0_pn_speculated = r1_3_0;
+        r12_6_8_0 = 0u; /* any */
+        r12_6_7_0 = r1_3_0;
+        r12_6_6_0 = r1_2_0;
+        r12_6_9_18_0 = 0u; /* any */
+        r12_6_9_19_0 = 0u; /* any */
+        r12_6_9_21_0 = 0u; /* any */
+        r12_6_9_22_0 = 0u; /* any */
+        r12_6_9_24_0 = 0u; /* any */
+        r12_3_2_0 = 0u;
         goto arm_1;
     }
-    command_lose_all(r5 + 4);
-    CRegistersRegisters_write8(r5 + 4, 41u, 0u);
-    Stream_pause(r5 + 4, 10000u);
-    CRegistersRegisters_write8(r5 + 4, 47u, 1u);
-    settling_settle_reset(r5 + 4);
-    Stream_write_register(r5 + 4, 4u, 52u, UINT32_C(0x7f0033));
-    Stream_write_register(r5 + 4, 4u, 56u, 0u);
-    r38 = CRegistersRegisters_read32(r5 + 4, 64u);
-    r40 = CRegistersRegisters_read8(r5 + 4, 254u);
-    r8 = (uint32_t)(r38 >> 8u) & 255u;
+    r3_919_0 = r11[16];
+    r3_10_0 = r11[17];
+    r3_11_0 = load16_aligned(r11 + 18);
+    r7 = a0[11] == 1u;
+    command_lose_all(r11 + 4);
+    StoryRegistersRegisters_write8(r11 + 4, 41u, 0u);
+    Stream_pause(r11 + 4, 10000u);
+    StoryRegistersRegisters_write8(r11 + 4, 47u, 1u);
+    settling_settle_reset(r11 + 4);
+    Stream_write_register(r11 + 4, 4u, 52u, UINT32_C(0x7f0033));
+    Stream_write_register(r11 + 4, 4u, 56u, 0u);
+    r6 = CRegistersRegisters_read32(r11 + 4, 64u);
+    r40 = StoryRegistersRegisters_read8(r11 + 4, 254u);
+    r8 = (uint32_t)(r6 >> 8u) & 255u;
     r3_0 = ((r40 < 2u) && (r8 > 63u)) ? 0u : r8;
-    if ((r38 & UINT32_C(0x1000000)) == 0u) {
-        r7_3_2_0_ph = UINT32_C(0xffffffea);
+    if ((r6 & UINT32_C(0x1000000)) == 0u) {
+        r12_3_2_0_ph = UINT32_C(0xffffffea);
         goto arm_2;
     }
     if (r3_0 == 0u) {
-        r7_3_2_0_ph = UINT32_C(0xffffffe9);
+        r12_3_2_0_ph = UINT32_C(0xffffffe9);
         goto arm_2;
     }
     r1_07 = 0u;
 join_5: {
-    uint32_t r16_2 = CRegistersRegisters_read32(r5 + 4, 36u);
-    if ((r16_2 & UINT32_C(0x20000)) == 0u) {
-        Stream_pause(r5 + 4, 100u);
+    uint32_t r6_2 = CRegistersRegisters_read32(r11 + 4, 36u);
+    if ((r6_2 & UINT32_C(0x20000)) == 0u) {
+        Stream_pause(r11 + 4, 100u);
         uint32_t r37 = r1_07 + 1u;
         if (r37 == 1000u) {
-            r7_3_2_0_ph = UINT32_C(0xffffffe8);
+            r12_3_2_0_ph = UINT32_C(0xffffffe8);
             goto arm_2;
         }
         r1_07 = r37;
         goto join_5;
     }
-    if ((r16_2 & UINT32_C(0x10000)) == 0u) {
-        r7_3_2_0_ph = UINT32_C(0xffffffe8);
+    if ((r6_2 & UINT32_C(0x10000)) == 0u) {
+        r12_3_2_0_ph = UINT32_C(0xffffffe8);
         goto arm_2;
     }
-    CRegistersRegisters_write8(r5 + 4, 41u, 15u);
-    CRegistersRegisters_write8(r5 + 4, 40u, 0u);
-    clock_set_clock(r5 + 4, r3_0, r40, UINT32_C(0x61a80));
-    Stream_pause(r5 + 4, (UINT32_C(0x24f6c) / r8) + 1001u);
-    uint8_t spec_select = (uint8_t)(r7 ? 0u : (uint8_t)(((r38 & UINT32_C(0x40000)) == 0u) ? 1u : 2u));
-    uint8_t r7_0_0 = (uint8_t)((uint8_t)(r38 >> 21u) & 1u);
-    memcpy(r4_10_3_5, r5 + 10, 26);
-    r3_0_0_pn_speculated = spec_select;
-    r3_3_0_pn_speculated = r7_0_0;
-    r4_25_0_ph = spec_select;
-    r4_26_0_ph = r7_0_0;
-    r4_2720_0_ph = r3_0;
-    r4_28_0_ph = r40;
-    r4_2921_0_ph = r38;
-    r4_6_0_ph = 1u;
+    StoryRegistersRegisters_write8(r11 + 4, 41u, 15u);
+    StoryRegistersRegisters_write8(r11 + 4, 40u, 0u);
+    clock_set_clock(r11 + 4, r3_0, r40, UINT32_C(0x61a80));
+    Stream_pause(r11 + 4, (UINT32_C(0x24f6c) / r8) + 1001u);
+    uint8_t spec_select = (uint8_t)(r7 ? 0u : (uint8_t)(((r6 & UINT32_C(0x40000)) == 0u) ? 1u : 2u));
+    uint8_t r7_0_0 = (uint8_t)((uint8_t)(r6 >> 21u) & 1u);
+    memcpy(r25_6_4, r11 + 10, 6);
+    memcpy(r25_6_8_0, r11 + 20, 16);
+    r0_0_0_pn_speculated = spec_select;
+    r0_2_0_pn_speculated = r7_0_0;
+    r12_6_8_0 = r3_11_0;
+    r12_6_7_0 = r3_10_0;
+    r12_6_6_0 = r3_919_0;
+    r12_6_9_18_0 = spec_select;
+    r12_6_9_19_0 = r7_0_0;
+    r12_6_9_21_0 = r3_0;
+    r12_6_9_22_0 = r40;
+    r12_6_9_24_0 = r6;
+    r12_3_2_0 = 1u;
     goto arm_1;
 }
 arm_2: {
     *a1 = 0u;
     memset(a2, 0u, 64);
-    r9_0 = r7_3_2_0_ph;
+    r7_0 = r12_3_2_0_ph;
     goto join_4;
 }
 arm_1: {
-    bool r7_2 = a0[11] == 1u;
-    switch (r3_0_0_pn_speculated) {
-    default: {
-        trap();
-        return 0;
-    }
-    case 0u: {
-        goto after_2;
-    }
-    case 1u: {
-        if (r7_2) {
-            goto after_2;
-        }
-        r5_0_0 = 1u;
-        goto arm_1_2;
-    }
-    case 2u: {
-        r5_0_0 = (uint8_t)(r7_2 ? 0u : 2u);
-        goto arm_1_2;
-    }
-    }
-}
-after_2: {
-    r5_0_0 = 0u;
-}
-arm_1_2: {
-    memcpy(r2 + 10, r4_10_3_5, 26);
-    memset(r10_21 + 4, 0u, 13);
-    store32_aligned(r2, r4_6_0_ph);
-    store32_aligned(r2 + 4, r8_0_0);
-    r2[8] = r8_7_0;
-    r2[9] = r8_8_0;
+    memset(r8_41 + 4, 0u, 13);
+    store32_aligned(r2, r12_3_2_0);
+    store32_aligned(r2 + 4, r1_0_0);
+    r2[8] = r1_2_0;
+    r2[9] = r1_3_0;
+    memcpy(r2 + 10, r25_6_4, 6);
+    r2[16] = r12_6_6_0;
+    r2[17] = r12_6_7_0;
+    store16_aligned(r2 + 18, r12_6_8_0);
+    memcpy(r2 + 20, r25_6_8_0, 16);
     r2[36] = 0u;
     r2[37] = 0u;
     r2[38] = 1u;
@@ -8107,41 +8131,40 @@ arm_1_2: {
     store32_aligned(r2 + 64, 0u);
     store32_aligned(r2 + 68, 0u);
     r2[72] = 1u;
-    r2[73] = r4_25_0_ph;
-    r2[74] = r4_26_0_ph;
-    store32_aligned(r2 + 76, r4_2720_0_ph);
-    r2[80] = r4_28_0_ph;
-    store32_aligned(r2 + 84, r4_2921_0_ph);
-    store16_aligned(r2 + 88, (uint16_t)((uint16_t)((uint32_t)(uint16_t)r3_3_0_pn_speculated << 8u) | (uint16_t)r5_0_0));
-    r2[96] = 0u;
-    r2[97] = 0u;
-    r2[98] = r5_0_0;
-    r2[99] = r3_3_0_pn_speculated;
-    store64_aligned(r2 + 104, 0u);
-    store64_aligned(r2 + 144, 0u);
-    r2[152] = 0u;
-    r2[153] = 0u;
-    r2[154] = 1u;
-    r2[155] = 1u;
-    r2[156] = 0u;
-    store16_aligned(r2 + 158, 0u);
-    store16_aligned(r2 + 160, 0u);
-    store32_aligned(r2 + 168, 0u);
-    memcpy(r2 + 172, r10_21, 17);
+    r2[73] = r12_6_9_18_0;
+    r2[74] = r12_6_9_19_0;
+    store32_aligned(r2 + 76, r12_6_9_21_0);
+    r2[80] = r12_6_9_22_0;
+    store32_aligned(r2 + 84, r12_6_9_24_0);
+    r2[88] = 0u;
+    r2[89] = 0u;
+    r2[90] = r0_0_0_pn_speculated;
+    r2[91] = r0_2_0_pn_speculated;
+    store64_aligned(r2 + 96, 0u);
+    store64_aligned(r2 + 136, 0u);
+    r2[144] = 0u;
+    r2[145] = 0u;
+    r2[146] = 1u;
+    r2[147] = 1u;
+    r2[148] = 0u;
+    store16_aligned(r2 + 150, 0u);
+    store16_aligned(r2 + 152, 0u);
+    store32_aligned(r2 + 160, 0u);
+    memcpy(r2 + 164, r8_41, 17);
     *a1 = 0u;
     memset(a2, 0u, 64);
-    initialization_initialize(r3_4, r2);
-    if (*r3_4 == 0u) {
-        uint8_t r1_2_144 = r3_4[160];
-        uint8_t r1_4_145 = r3_4[161];
-        uint8_t r1_6_146 = r3_4[162];
-        uint8_t r4_8_0_0_12 = r3_4[16];
-        memcpy(r4_8_4, r3_4 + 17, 15);
-        u128 r4_8_5_0_14 = load128_aligned(r3_4 + 32);
-        memcpy(r4_8_6, r3_4 + 48, 97);
-        uint8_t r4_8_7_0_16 = r3_4[145];
-        uint8_t r4_8_8_0_18 = r3_4[146];
-        memcpy(r4_8_9, r3_4 + 147, 13);
+    initialization_initialize(r3_2, r2);
+    if (*r3_2 == 0u) {
+        uint8_t r1_2_144 = r3_2[160];
+        uint8_t r1_4_145 = r3_2[161];
+        uint8_t r1_6_146 = r3_2[162];
+        uint8_t r4_8_0_0_12 = r3_2[16];
+        memcpy(r4_8_4, r3_2 + 17, 15);
+        u128 r4_8_5_0_14 = load128_aligned(r3_2 + 32);
+        memcpy(r4_8_6, r3_2 + 48, 97);
+        uint8_t r4_8_7_0_16 = r3_2[145];
+        uint8_t r4_8_8_0_18 = r3_2[146];
+        memcpy(r4_8_9, r3_2 + 147, 13);
         bool extract_t44 = (r4_8_8_0_18 & 1u) != 0;
         memcpy(r1_2, r4_8_4, 15);
         memcpy(r1_4, r4_8_6, 97);
@@ -8164,18 +8187,18 @@ arm_1_2: {
         r2_0_off0 = false;
         goto join_3;
     }
-    initialization_initialize(r5_5, r2);
-    if (*r5_5 == 0u) {
-        uint8_t r2_2_144 = r5_5[160];
-        uint8_t r2_4_145 = r5_5[161];
-        uint8_t r2_6_146 = r5_5[162];
-        uint8_t r4_8_0_0_11 = r5_5[16];
-        memcpy(r4_8_4, r5_5 + 17, 15);
-        u128 r4_8_5_0_13 = load128_aligned(r5_5 + 32);
-        memcpy(r4_8_6, r5_5 + 48, 97);
-        uint8_t r4_8_7_0_15 = r5_5[145];
-        uint8_t r4_8_8_0_17 = r5_5[146];
-        memcpy(r4_8_9, r5_5 + 147, 13);
+    initialization_initialize(r5, r2);
+    if (*r5 == 0u) {
+        uint8_t r2_2_144 = r5[160];
+        uint8_t r2_4_145 = r5[161];
+        uint8_t r2_6_146 = r5[162];
+        uint8_t r4_8_0_0_11 = r5[16];
+        memcpy(r4_8_4, r5 + 17, 15);
+        u128 r4_8_5_0_13 = load128_aligned(r5 + 32);
+        memcpy(r4_8_6, r5 + 48, 97);
+        uint8_t r4_8_7_0_15 = r5[145];
+        uint8_t r4_8_8_0_17 = r5[146];
+        memcpy(r4_8_9, r5 + 147, 13);
         bool extract_t43 = (r4_8_8_0_17 & 1u) != 0;
         memcpy(r1_2, r4_8_4, 15);
         memcpy(r1_4, r4_8_6, 97);
@@ -8237,10 +8260,10 @@ arm_1_2: {
     }
     if (v12 != 0u) {
         r6_0 = (v13 == 0u) ? UINT32_C(0xffffffec) : UINT32_C(0xffffffeb);
-        goto kelifandro_opening_open_over_bbb6b08ee4b3c338_exit;
+        goto kelifandro_opening_open_over_1bed76fd314cf36e_exit;
     }
     r6_0 = load32_aligned(at((uint8_t *)bytes_opening_open_once, (uint64_t)v13 * 4u));
-    goto kelifandro_opening_open_over_bbb6b08ee4b3c338_exit;
+    goto kelifandro_opening_open_over_1bed76fd314cf36e_exit;
 }
 then_1: {
     uint64_t r14 = (uint64_t)u128_lshr(r4_8_5_03547, 56u).lo & UINT64_C(0xffffffffffff);
@@ -8285,7 +8308,7 @@ then_1: {
             r4_12_0315658 = r4_12_03157;
             r4_8_5_03549 = r4_8_5_03547;
             r6_0_off0 = false;
-            goto arm_1_10;
+            goto arm_1_9;
         }
         case UINT64_C(0x53454d303247):
         case UINT64_C(0x53454d303447):
@@ -8323,7 +8346,7 @@ then_1: {
             r4_12_0315658 = r4_12_03157;
             r4_8_5_03549 = r4_8_5_03547;
             r6_0_off0 = false;
-            goto arm_1_10;
+            goto arm_1_9;
         }
         case UINT64_C(0x4d3632373034):
         case UINT64_C(0x563130303038):
@@ -8358,7 +8381,7 @@ then_1: {
         r4_12_0315658 = r4_12_03157;
         r4_8_5_03549 = r4_8_5_03547;
         r6_0_off0 = false;
-        goto arm_1_10;
+        goto arm_1_9;
     }
     }
 }
@@ -8371,7 +8394,7 @@ join_3: {
         r4_12_0315658 = r4_12_03156;
         r4_8_5_03549 = r4_8_5_03548;
         r6_0_off0 = false;
-        goto arm_1_10;
+        goto arm_1_9;
     }
     if (r4_8_0_03451 != 0u) {
         r4_12_031565980 = r4_12_03156;
@@ -8425,7 +8448,7 @@ mmc_switch_known_faults_locks_up_at_cmd23_exit: {
     r4_8_5_03549 = r4_8_5_035486676;
     r6_0_off0 = r5_0_shrunk != true;
 }
-arm_1_10: {
+arm_1_9: {
     *r9 = r4_8_0_0345165;
     memcpy(r9 + 1, r1_2, 15);
     store128_aligned(r9 + 16, r4_8_5_03549);
@@ -8436,10 +8459,10 @@ arm_1_10: {
     r9[144] = r4_12_0315658;
     r9[145] = r4_16_0325460;
     r9[146] = r4_20_0335262;
-    noted_note(r7_6, r9);
-    memcpy(a1, r7_6, 104);
-    noting_stands_by(r2_3, a1);
-    if (*r2_3 == 1u) {
+    noted_note(r7_3, r9);
+    memcpy(a1, r7_3, 104);
+    noting_stands_by(r2_2, a1);
+    if (*r2_2 == 1u) {
         v = 0u;
         goto kelifandro_opening_is_noted_exit;
     }
@@ -8449,77 +8472,16 @@ arm_1_10: {
 kelifandro_opening_is_noted_exit: {
     r6_0 = v;
 }
-kelifandro_opening_open_over_bbb6b08ee4b3c338_exit: {
-    uint32_t r10_0_0_15 = load32_aligned(r2);
-    uint32_t r10_4_0_0_72 = load32_aligned(r2 + 4);
-    uint8_t r10_4_4_0_74 = r2[8];
-    uint8_t r10_4_5_0_76 = r2[9];
-    uint8_t r10_4_7_0_78 = r2[36];
-    uint8_t r10_4_8_0_80 = r2[37];
-    uint8_t r10_4_9_0_82 = r2[38];
-    uint8_t r10_4_10_0_84 = r2[39];
-    uint8_t r10_4_11_0_86 = r2[40];
-    uint8_t r10_4_12_0_88 = r2[41];
-    uint16_t r10_4_13_0_90 = load16_aligned(r2 + 42);
-    uint16_t r10_4_14_0_92 = load16_aligned(r2 + 44);
-    memcpy(r4 + 46, r2 + 46, 6);
-    uint32_t r10_4_16_0_94 = load32_aligned(r2 + 52);
-    uint32_t r10_4_17_0_96 = load32_aligned(r2 + 56);
-    uint32_t r10_4_18_0_98 = load32_aligned(r2 + 60);
-    uint32_t r10_4_19_0_100 = load32_aligned(r2 + 64);
-    uint32_t r10_4_20_0_102 = load32_aligned(r2 + 68);
-    uint8_t r10_4_21_0_104 = r2[72];
-    uint8_t r10_4_22_0_106 = r2[73];
-    uint8_t r10_4_23_0_108 = r2[74];
-    uint8_t r10_4_24_0_110 = r2[75];
-    uint32_t r10_4_25_0_112 = load32_aligned(r2 + 76);
-    uint8_t r10_4_26_0_114 = r2[80];
-    uint32_t r10_4_28_0_116 = load32_aligned(r2 + 84);
-    memcpy(r4 + 10, r2 + 10, 26);
-    store32_aligned(r4, r10_0_0_15 & 255u);
-    store32_aligned(r4 + 4, r10_4_0_0_72);
-    r4[8] = r10_4_4_0_74;
-    r4[9] = r10_4_5_0_76;
-    r4[36] = r10_4_7_0_78;
-    r4[37] = r10_4_8_0_80;
-    r4[38] = r10_4_9_0_82;
-    r4[39] = r10_4_10_0_84;
-    r4[40] = r10_4_11_0_86;
-    r4[41] = r10_4_12_0_88;
-    store16_aligned(r4 + 42, r10_4_13_0_90);
-    store16_aligned(r4 + 44, r10_4_14_0_92);
-    store32_aligned(r4 + 52, r10_4_16_0_94);
-    store32_aligned(r4 + 56, r10_4_17_0_96);
-    store32_aligned(r4 + 60, r10_4_18_0_98);
-    store32_aligned(r4 + 64, r10_4_19_0_100);
-    store32_aligned(r4 + 68, r10_4_20_0_102);
-    r4[72] = r10_4_21_0_104;
-    r4[73] = r10_4_22_0_106;
-    r4[74] = r10_4_23_0_108;
-    r4[75] = r10_4_24_0_110;
-    store32_aligned(r4 + 76, r10_4_25_0_112);
-    r4[80] = r10_4_26_0_114;
-    memcpy(r4 + 81, r2 + 81, 3);
-    store32_aligned(r4 + 84, r10_4_28_0_116);
-    R_end(r4, r6_0 != 0u);
-    r9_0 = r6_0;
+kelifandro_opening_open_over_1bed76fd314cf36e_exit: {
+    uint8_t r0_0_0 = *r2;
+    memcpy(r4 + 4, r2 + 4, 84);
+    store32_aligned(r4, (uint32_t)r0_0_0);
+    hosts_end(r4, r6_0 != 0u);
+    r7_0 = r6_0;
 }
 join_4: {
-    return r9_0;
+    return r7_0;
 }
-}
-
-/* kelifandro_close_by */
-void kelifandro_close_by(const void *way)
-{
-    KELIFANDRO_ROOM uint8_t r0[36];
-    KELIFANDRO_ROOM uint8_t r1[36];
-    uint8_t *way_bytes = (uint8_t *)way;
-    given_given_by(r0, way_bytes);
-    store32_aligned(r1, (uint32_t)*r0);
-    memcpy(r1 + 4, r0 + 4, 32);
-    CRegisters_switch_off(r1);
-    return;
 }
 
 /* kelifandro_sectors_by */
@@ -8543,6 +8505,14 @@ uint64_t kelifandro_sectors_by(const void *way, const void *card, uint32_t part)
 kelifandro_exports_kelifandro_sectors_by_exit: {
     return r5_0;
 }
+}
+
+/* kelifandro_close_by */
+void kelifandro_close_by(const void *way)
+{
+    uint8_t *way_bytes = (uint8_t *)way;
+    hosts_switch_off(way_bytes);
+    return;
 }
 
 /* kelifandro_serve_by */
@@ -8608,11 +8578,11 @@ int32_t kelifandro_serve_long_by(const void *way, void *card, void *healed, cons
     struct of_i8_i32 r33 = longs_may_begin(way_bytes, card_bytes, r3);
     if (r33.f0 == 1u) {
         r13_0 = r33.f1;
-        goto kelifandro_longs_serve_long_bdc0d8dae079f39d_exit;
+        goto kelifandro_longs_serve_long_fb070baa9c134c3e_exit;
     }
     if (count == 0u) {
         common_ret_op = 0u;
-        goto kelifandro_longs_serve_parts_bdc0d8dae079f39d_exit;
+        goto kelifandro_longs_serve_parts_fb070baa9c134c3e_exit;
     }
     uint16_t r10 = load16_aligned(way_bytes + 8);
     r1 = ((way_bytes[15] == 0u) || ((uint16_t)(r10 + 53248u) < 53260u)) ? 65535u : ((uint64_t)(uint16_t)(r10 / 12u) << 6u);
@@ -8626,7 +8596,7 @@ join_5: {
     uint32_t r101 = requests_serve_told(way_bytes, card_bytes, healed_bytes, r7, at(r4, r3826 << 9u), a1_a0);
     if (r101 != 0u) {
         common_ret_op = r101;
-        goto kelifandro_longs_serve_parts_bdc0d8dae079f39d_exit;
+        goto kelifandro_longs_serve_parts_fb070baa9c134c3e_exit;
     }
     store64_aligned(done_bytes, load64_aligned(done_bytes) + a1_a0);
     uint32_t r116 = load32_aligned(way_bytes);
@@ -8640,10 +8610,10 @@ join_5: {
     }
     common_ret_op = 0u;
 }
-kelifandro_longs_serve_parts_bdc0d8dae079f39d_exit: {
+kelifandro_longs_serve_parts_fb070baa9c134c3e_exit: {
     r13_0 = common_ret_op;
 }
-kelifandro_longs_serve_long_bdc0d8dae079f39d_exit: {
+kelifandro_longs_serve_long_fb070baa9c134c3e_exit: {
     r5_0 = r13_0;
 }
 kelifandro_exports_kelifandro_serve_long_by_exit: {
@@ -8654,38 +8624,24 @@ kelifandro_exports_kelifandro_serve_long_by_exit: {
 /* kelifandro_open_by */
 int32_t kelifandro_open_by(const void *way, void *card, void *healed)
 {
-    KELIFANDRO_ROOM uint8_t r2[36];
-    KELIFANDRO_ROOM uint8_t room[36];
-    uint8_t *const r3 = room;
-    uint8_t *const r11 = room;
-    uint8_t *const r13 = room;
     uint32_t common_ret_op;
     uint8_t *way_bytes = (uint8_t *)way;
     uint8_t *card_bytes = (uint8_t *)card;
     uint8_t *healed_bytes = (uint8_t *)healed;
-    given_given_by(r2, way_bytes);
-    store32_aligned(r3, (uint32_t)*r2);
-    memcpy(r3 + 4, r2 + 4, 32);
-    CRegisters_switch_on(r3);
-    uint32_t r26 = opening_open_once(way_bytes, card_bytes, healed_bytes);
-    if (r26 != UINT32_C(0xffffffec)) {
-        common_ret_op = r26;
+    hosts_switch_on(way_bytes);
+    uint32_t r15 = opening_open_once(way_bytes, card_bytes, healed_bytes);
+    if (r15 != UINT32_C(0xffffffec)) {
+        common_ret_op = r15;
         goto kelifandro_exports_kelifandro_open_by_exit;
     }
     if (way_bytes[16] == 0u) {
         common_ret_op = UINT32_C(0xffffffec);
         goto kelifandro_exports_kelifandro_open_by_exit;
     }
-    given_given_by(r2, way_bytes);
-    store32_aligned(r11, (uint32_t)*r2);
-    memcpy(r11 + 4, r2 + 4, 32);
-    CRegisters_switch_off(r11);
-    given_given_by(r2, way_bytes);
-    store32_aligned(r13, (uint32_t)*r2);
-    memcpy(r13 + 4, r2 + 4, 32);
-    CRegisters_switch_on(r13);
-    uint32_t r57 = opening_open_once(way_bytes, card_bytes, healed_bytes);
-    common_ret_op = r57;
+    hosts_switch_off(way_bytes);
+    hosts_switch_on(way_bytes);
+    uint32_t r37 = opening_open_once(way_bytes, card_bytes, healed_bytes);
+    common_ret_op = r37;
 kelifandro_exports_kelifandro_open_by_exit: {
     return signed32(common_ret_op);
 }
