@@ -25,7 +25,7 @@ use Rattle.kelifandro.specs.Asked.{AreWhole}
 use Rattle.kelifandro.specs.Calls.{is_attempted}
 use Rattle.kelifandro.specs.History.{AreSteps, Call, HasServed, IsAnswered, IsStep, TellsAnswer, Told, joined, request_by}
 use Rattle.kelifandro.specs.History.Call.{Closed, Opened, Served}
-use Rattle.kelifandro.specs.ReadBack.{AreOpenings, ReadsBack}
+use Rattle.kelifandro.specs.ReadBack.{AreOpenings, ReadsBack, WrittenIsReadBack}
 use Rattle.kelifandro.proofs.HistoryLemmas.{AreSectors, are_sectors, length-joined, pieces-joined, same_change}
 
 -- Lists.
@@ -245,3 +245,12 @@ read_back limits start now wrote read between earlier h openings b =
     (subst (λ values. IsIn values (slice_index_or read.after i [])) (left i (omega (arith, less, long)))
     (subst (λ n. IsIn (middle.sets wrote.asked.part (n + i)) (slice_index_or read.after i [])) b.start
     (subst (λ (p : Part). IsIn (middle.sets p (read.asked.start + i)) (slice_index_or read.after i [])) b.part (gives.1 i less)))))
+
+-- What is read back after a closing and an opening.
+pub read_after : {limits : Lines} {start now : Card} {earlier after_write closed opened calls : List Call} (wrote read : Told) (number : ℤ)
+    → WrittenIsReadBack → HasServed limits start now calls → after_write ≡ Served wrote ∷ earlier → closed ≡ Closed ∷ after_write
+    → opened ≡ Opened number ∷ closed → calls ≡ Served read ∷ opened → ReadsBack wrote read → read.after ≡ wrote.before
+read_after {limits} {start} {now} {earlier} {after_write} {closed} {opened} {calls} wrote read number law has writes closes opens reads =
+    law limits start now wrote read (Opened number ∷ Closed ∷ []) earlier (subst (HasServed limits start now) (reads
+    ∙ ap (λ calls. Served read ∷ calls) (opens ∙ ap (λ calls. Opened number ∷ calls) (closes ∙ ap (λ calls. Closed ∷ calls) writes))) has)
+    tt

@@ -6,6 +6,7 @@ mod asked;
 mod calls;
 mod closing;
 mod did;
+mod example;
 mod exports;
 mod history;
 mod hosts;

@@ -151,7 +151,7 @@ pub fn serve_by<S: HasStory + HasRegisterStory, R: Request>(
 }
 
 // What memory holds, for proofs: blocks of 512 bytes each.
-fn seen(blocks: &[[u8; 512]]) -> Seen<Memory>
+pub(crate) fn seen(blocks: &[[u8; 512]]) -> Seen<Memory>
     ensures same { result ≡ blocks.now }
     ensures whole { AreWhole blocks.now }
 {
