@@ -116,6 +116,7 @@ pub fn serve_by<S: HasStory + HasRegisterStory, R: Request>(
     ensures unmade { IfErr result (λ number. is_attempted number ≡ false) }
     ensures unready { IfOpen way.now card.old (λ stands. IfErr result (λ number.
         TellsUnready (stories_of S.HasStory.story S.HasRegisterStory.story) (done_of did.new) number)) }
+    ensures no_clock { IfOpen way.now card.old (λ stands. IfErr result (λ number. number ≡ minus 23)) }
     ensures no_host { IfErr result (λ number. (card.new ≡ card.old) × (request.new ≡ request.old)) }
     ensures stays { IfErr result (λ number. OnlyTold
         (host_after (stories_of S.HasStory.story S.HasRegisterStory.story) way.now (done_of did.old))
@@ -175,6 +176,7 @@ pub fn serve_told<S: HasStory + HasRegisterStory>(
         TellsWhy way.now.by (refusal_of (info_of stands) (asked_with asked.now blocks.old)) result) }
     ensures unready { IfOpen way.now card.old (λ stands. is_unready result ≡ true
         → TellsUnready (stories_of S.HasStory.story S.HasRegisterStory.story) (done_of did.new) result) }
+    ensures no_clock { IfOpen way.now card.old (λ stands. is_unready result ≡ true → result ≡ minus 23) }
     ensures uncounted { is_attempted result ≡ false → healed.new ≡ healed.old }
     ensures counted { IfNoted card.old (λ stands. TellsCounts stands healed.old result card.new healed.new) }
     ensures untouched { is_attempted result ≡ false → blocks.new ≡ blocks.old }

@@ -35,6 +35,13 @@ returns-clause-unready g c = λ opened how says.
     (tells_unready (λ came. came.answer) (λ (d : Did) (number : ℤ). TellsUnready stories (done_of d) number) called.result c.told.result
     called.new.did c.told.new.did c.told.ensures.answer c.told.ensures.why c.told.ensures.none (called.ensures.unready opened how says))
 
+pub returns-clause-no_clock : goal.returns-clause-no_clock
+returns-clause-no_clock g c = λ opened how says.
+    let called = c.serve_by-called in
+    subst (λ (number : ℤ). is_unready number ≡ true → number ≡ minus 23) (sym (to_z-of_z w32 c.told.result (search rules)))
+    (tells_unready (λ came. came.answer) (λ (d : Did) (number : ℤ). number ≡ minus 23) called.result c.told.result
+    called.new.did c.told.new.did c.told.ensures.answer c.told.ensures.why c.told.ensures.none (called.ensures.no_clock opened how says))
+
 pub returns-clause-counted : goal.returns-clause-counted
 returns-clause-counted g c = λ how says.
     let called = c.serve_by-called in
