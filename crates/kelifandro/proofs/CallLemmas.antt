@@ -22,7 +22,7 @@ use Rattle.c_host.specs.declared.given.WayRecord.{WayRecord}
 use Rattle.mmc_record.specs.Note.{IsNoteOf, is_note}
 use Rattle.mmc_record.specs.declared.record.CardRecord.{CardRecord}
 use Rattle.mmc_recovery.specs.declared.healed.Healed.{Healed}
-use Rattle.kelifandro.specs.Answers.{answer_number, cause_number, refused_number}
+use Rattle.kelifandro.specs.Answers.{answer_number, cause_number, is_unready, refused_number}
 use Rattle.kelifandro.specs.Longs.{begins_by}
 use Rattle.kelifandro.specs.Calls.{IfNoted, IsAsNoted, TellsCounts, TellsWhy, is_attempted, is_open}
 
@@ -73,6 +73,39 @@ tells_why answer way (Some why) (Ok did) number told other fault comes judged =
     (λ done. not_done why (sym is ∙ done), λ host. is)
 tells_why answer way (Some why) (Err not) number told other fault comes judged =
     (λ done. fault (sym other ∙ done), λ host. absurd (false≢true (comes host)))
+
+-- no answer tells that the controller isn't ready
+refused_ready : (why : Refused) → is_unready (refused_number why) ≡ false
+refused_ready NoSuchPartition = refl
+refused_ready OutOfRange = refl
+refused_ready Empty = refl
+refused_ready TooLong = refl
+refused_ready ReadOnly = refl
+refused_ready NotInPartition = refl
+refused_ready NoTrim = refl
+refused_ready Unaligned = refl
+
+failed_ready : (cause : Cause) → is_unready (cause_number cause) ≡ false
+failed_ready Answer = refl
+failed_ready Data = refl
+failed_ready Status = refl
+failed_ready Busy = refl
+failed_ready Recovery = refl
+
+answer_ready : (answer : Result Unit NotDone) → is_unready (answer_number answer) ≡ false
+answer_ready (Ok done) = refl
+answer_ready (Err (RefusedFor why)) = refused_ready why
+answer_ready (Err (Failed cause)) = failed_ready cause
+
+-- so that it isn't is told only where the call came to no host
+pub tells_unready : {A D : Type 0} (answer : A → Result Unit NotDone) (Tells : D → ℤ → Type 0) (called : Result A ℤ) (number : ℤ)
+    (middle end : D) → IfOk called (λ came. number ≡ answer_number (answer came)) → IfErr called (λ other. number ≡ other)
+    → IfErr called (λ other. end ≡ middle) → IfErr called (λ other. Tells middle other) → is_unready number ≡ true
+    → Tells end number
+tells_unready answer Tells (Ok came) number middle end told other none tells = λ unready.
+    absurd (false≢true (sym (answer_ready (answer came)) ∙ ap (λ (n : ℤ). is_unready n) (sym told) ∙ unready))
+tells_unready answer Tells (Err not) number middle end told other none tells = λ unready.
+    subst (λ d. Tells d number) (sym none) (subst (λ n. Tells middle n) (sym other) tells)
 
 pub refused_only : (answer : Result Unit NotDone) (Holds : Type 0) → is_attempted (answer_number answer) ≡ false
     → IfRefused answer Holds → Holds

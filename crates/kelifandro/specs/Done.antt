@@ -1,5 +1,5 @@
 -- What was done for C, by either way, and what is assumed of it: a story for each way.
-use Rattle.std.specs.Prelude.{◌==◌, ◌≡◌, ◌≤◌, [], List, if◌then◌else◌, true}
+use Rattle.std.specs.Prelude.{◌==◌, ◌≡◌, ◌≤◌, [], List, if◌then◌else◌, true, ℤ}
 use Rattle.mmc_card.specs.Card.{IsCard, holds}
 use Rattle.mmc_card.specs.Laws.{Carried, StillStands}
 use Rattle.mmc_card.specs.Sectors.{Within}
@@ -9,7 +9,8 @@ use Rattle.mmc_host.specs.Hosts.{HostView, Where}
 use Rattle.mmc_record.specs.Note.{is_note}
 use Rattle.mmc_record.specs.declared.record.CardRecord.{CardRecord}
 use Rattle.mmc_sdhci.specs.Controller.{ControllerView, limits_of}
-use Rattle.mmc_sdhci.specs.Driver.{IsNew, IsReady, host_over}
+use Rattle.mmc_sdhci.specs.Driver.{IsNew, IsReady, IsUnready, host_over}
+use Rattle.mmc_sdhci.specs.declared.start.StartFault.{StartFault}
 use Rattle.mmc_story.specs.Entry.{Entry}
 use Rattle.mmc_story.specs.Story.{Story, host_with}
 use Rattle.sdhci_story.specs.Access.{Access}
@@ -17,6 +18,7 @@ use Rattle.sdhci_story.specs.RegisterStory as Registers
 use Rattle.sdhci_story.specs.RegisterStory.{RegisterStory}
 use Rattle.c_host.specs.Given.{lines_by, most_by}
 use Rattle.c_host.specs.declared.given.WayRecord.{WayRecord}
+use Rattle.kelifandro.specs.Answers.{start_number}
 use Rattle.kelifandro.specs.declared.did.Did.{Did}
 
 -- What was done: the calls of functions, and the accesses to registers, of each the last one first.
@@ -77,6 +79,11 @@ IsWired stories way =
 -- by registers, this holds of the controller after what was done
 abbrev pub AtRegisters : Stories → WayRecord → Done → (ControllerView → Type 0) → Type 0
 AtRegisters stories way done Holds = (way.by ≡ 0 → ⊥) → Holds (stories.registers.controller done.accesses)
+
+-- This number tells that the controller isn't ready, and why, as it is after what was done.
+abbrev pub TellsUnready : Stories → Done → ℤ → Type 0
+TellsUnready stories done number =
+    (fault : StartFault) × (number ≡ start_number fault) × IsUnready fault (stories.registers.controller done.accesses)
 
 -- What a call presumes, and what it leaves. By registers nothing runs at the controller; and where a card is noted all is set that its next
 -- command needs, and nothing is lent.

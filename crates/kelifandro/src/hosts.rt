@@ -4,9 +4,9 @@ ghost use Rattle.mmc_host.specs.HostStates.{IsBetween, begun};
 ghost use Rattle.mmc_host.specs.Hosts.{IsUnused, Where};
 ghost use Rattle.mmc_sdhci.specs.Driver.{IsNew, IsReady};
 ghost use Rattle.c_host.specs.declared.given.WayRecord.{WayRecord};
-ghost use Rattle.kelifandro.specs.Answers.{is_unready};
+ghost use Rattle.kelifandro.specs.Answers.{is_unready, minus};
 ghost use Rattle.kelifandro.specs.Calls.{is_attempted};
-ghost use Rattle.kelifandro.specs.Done.{AtRegisters, IsLeft, IsWired, OnlyTold, done_of, host_after, stories_of};
+ghost use Rattle.kelifandro.specs.Done.{AtRegisters, IsLeft, IsWired, OnlyTold, TellsUnready, done_of, host_after, stories_of};
 
 use crate::answers::start_number;
 use crate::did::{Did, ended};
@@ -37,6 +37,8 @@ pub fn begin<S: HasStory + HasRegisterStory>(
     ensures told { IfOk result (λ host. ⟦<CHost<S> as Host>⟧.has_told host begun.ios) }
     ensures did { IfOk result (λ host. did.new ≡ did.old) }
     ensures fault { IfErr result (λ number. is_unready number ≡ true) }
+    ensures unready { IfErr result (λ number.
+        TellsUnready (stories_of S.HasStory.story S.HasRegisterStory.story) (done_of did.new) number) }
     ensures stays { IfErr result (λ number. OnlyTold
         (host_after (stories_of S.HasStory.story S.HasRegisterStory.story) way.now (done_of did.old))
         (host_after (stories_of S.HasStory.story S.HasRegisterStory.story) way.now (done_of did.new))) }
@@ -87,6 +89,9 @@ pub fn go_back<S: HasStory + HasRegisterStory>(
     ensures did { IfOk result (λ host. did.new ≡ did.old) }
     ensures fault { IfErr result (λ number. number ≡ pos 0 → ⊥) }
     ensures unmade { IfErr result (λ number. is_attempted number ≡ false) }
+    ensures no_clock { IfErr result (λ number. number ≡ minus 23) }
+    ensures unready { IfErr result (λ number.
+        TellsUnready (stories_of S.HasStory.story S.HasRegisterStory.story) (done_of did.new) number) }
     ensures stays { IfErr result (λ number. OnlyTold
         (host_after (stories_of S.HasStory.story S.HasRegisterStory.story) way.now (done_of did.old))
         (host_after (stories_of S.HasStory.story S.HasRegisterStory.story) way.now (done_of did.new))) }

@@ -9,7 +9,7 @@ ghost use Rattle.mmc_record.specs.Note.{IsNoteOf, is_note};
 ghost use Rattle.mmc_switch.specs.declared.stands.Stands.{Stands};
 ghost use Rattle.mmc_sdhci.specs.Driver.{IsNew};
 ghost use Rattle.kelifandro.specs.Answers.{is_unready, minus};
-ghost use Rattle.kelifandro.specs.Done.{AtRegisters, IsFit, IsTrueOf, IsWired, done_of, host_after, stories_of};
+ghost use Rattle.kelifandro.specs.Done.{AtRegisters, IsFit, IsTrueOf, IsWired, TellsUnready, done_of, host_after, stories_of};
 ghost use Rattle.kelifandro.specs.History.Call.{Opened};
 ghost use Rattle.kelifandro.specs.History.{GoesOn, HasStayed, IsOpened};
 
@@ -71,6 +71,8 @@ fn open_once<S: HasStory + HasRegisterStory>(
     ensures noted { result ≡ pos 0 → is_note card.new ≡ true }
     ensures healed { healed.new ≡ none_met }
     ensures no_host { is_unready result ≡ true → card.new ≡ record card.old { state = 0 } }
+    ensures unready { is_unready result ≡ true
+        → TellsUnready (stories_of S.HasStory.story S.HasRegisterStory.story) (done_of did.new) result }
     ensures functions { way.now.by ≡ 0 → is_unready result ≡ false }
     ensures no_card { result ≡ minus 20 → card.new ≡ record card.old { state = 0 } }
     ensures stays { IsTrueOf (stories_of S.HasStory.story S.HasRegisterStory.story) way.now (done_of did.new)
@@ -113,6 +115,8 @@ pub fn open_by<S: HasStory + HasRegisterStory>(
     ensures noted { result ≡ pos 0 → is_note card.new ≡ true }
     ensures healed { healed.new ≡ none_met }
     ensures no_host { is_unready result ≡ true → card.new ≡ record card.old { state = 0 } }
+    ensures unready { is_unready result ≡ true
+        → TellsUnready (stories_of S.HasStory.story S.HasRegisterStory.story) (done_of did.new) result }
     ensures functions { way.now.by ≡ 0 → is_unready result ≡ false }
     ensures stays { IsTrueOf (stories_of S.HasStory.story S.HasRegisterStory.story) way.now (done_of did.new)
         → HasStayed (host_after (stories_of S.HasStory.story S.HasRegisterStory.story) way.now (done_of did.old))

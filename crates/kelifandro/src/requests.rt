@@ -12,10 +12,10 @@ ghost use Rattle.mmc_requests.specs.declared.limits.TheConstants.{ATTEMPTS};
 ghost use Rattle.mmc_sdhci.specs.Driver.{IsReady};
 ghost use Rattle.mmc_switch.specs.Stands.{info_of};
 ghost use Rattle.c_host.specs.declared.given.WayRecord.{WayRecord};
-ghost use Rattle.kelifandro.specs.Answers.{answer_number, minus};
+ghost use Rattle.kelifandro.specs.Answers.{answer_number, is_unready, minus};
 ghost use Rattle.kelifandro.specs.Asked.{AreWhole, asked_with};
 ghost use Rattle.kelifandro.specs.Calls.{IfNoted, IfOpen, TellsCounts, TellsWhy, is_attempted, is_open};
-ghost use Rattle.kelifandro.specs.Done.{IsFit, IsLeft, IsTrueOf, OnlyTold, done_of, host_after, stories_of};
+ghost use Rattle.kelifandro.specs.Done.{IsFit, IsLeft, IsTrueOf, OnlyTold, TellsUnready, done_of, host_after, stories_of};
 ghost use Rattle.kelifandro.specs.History.Call.{Served};
 ghost use Rattle.kelifandro.specs.History.{GoesOn};
 
@@ -114,6 +114,9 @@ pub fn serve_by<S: HasStory + HasRegisterStory, R: Request>(
     ensures functions { way.now.by ≡ 0 → IfOpen way.now card.old (λ stands. IsOk result) }
     ensures fault { IfErr result (λ number. number ≡ pos 0 → ⊥) }
     ensures unmade { IfErr result (λ number. is_attempted number ≡ false) }
+    ensures unready { IfOpen way.now card.old (λ stands. IfErr result (λ number.
+        TellsUnready (stories_of S.HasStory.story S.HasRegisterStory.story) (done_of did.new) number)) }
+    ensures no_clock { IfOpen way.now card.old (λ stands. IfErr result (λ number. number ≡ minus 23)) }
     ensures no_host { IfErr result (λ number. (card.new ≡ card.old) × (request.new ≡ request.old)) }
     ensures stays { IfErr result (λ number. OnlyTold
         (host_after (stories_of S.HasStory.story S.HasRegisterStory.story) way.now (done_of did.old))
@@ -171,6 +174,9 @@ pub fn serve_told<S: HasStory + HasRegisterStory>(
     ensures not_open { is_open way.now card.old ≡ false → result ≡ minus 1 }
     ensures judged { IfOpen way.now card.old (λ stands.
         TellsWhy way.now.by (refusal_of (info_of stands) (asked_with asked.now blocks.old)) result) }
+    ensures unready { IfOpen way.now card.old (λ stands. is_unready result ≡ true
+        → TellsUnready (stories_of S.HasStory.story S.HasRegisterStory.story) (done_of did.new) result) }
+    ensures no_clock { IfOpen way.now card.old (λ stands. is_unready result ≡ true → result ≡ minus 23) }
     ensures uncounted { is_attempted result ≡ false → healed.new ≡ healed.old }
     ensures counted { IfNoted card.old (λ stands. TellsCounts stands healed.old result card.new healed.new) }
     ensures untouched { is_attempted result ≡ false → blocks.new ≡ blocks.old }

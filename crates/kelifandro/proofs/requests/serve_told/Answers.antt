@@ -1,18 +1,18 @@
-use Rattle.std.proofs.Common.{◌∙◌, ◌≡◌, ap, rules, subst, sym, w32, ℕ}
+use Rattle.std.proofs.Common.{◌∙◌, ◌≡◌, ap, rules, subst, sym, true, w32, ℕ, ℤ}
 use Rattle.std.proofs.lemmas.Int.{to_z-of_z}
 use Rattle.mmc_direct.specs.Refusal.{refusal_of}
 use Rattle.mmc_switch.specs.Stands.{info_of}
 use Rattle.mmc_sdhci.specs.Driver.{IsReady}
-use Rattle.kelifandro.specs.Answers.{minus}
+use Rattle.kelifandro.specs.Answers.{is_unready, minus}
 use Rattle.kelifandro.specs.Asked.{AreWhole, HasBlocks, asked_with}
 use Rattle.mmc_card.specs.Sectors.{AreRead}
 use Rattle.mmc_card.specs.declared.part.Part.{Part}
 use Rattle.mmc_requests.specs.Kinds.{is_read}
 use Rattle.kelifandro.specs.Calls.{TellsCounts, TellsWhy}
-use Rattle.kelifandro.specs.Done.{IsFit, OnlyTold, done_of, host_after, stories_of}
+use Rattle.kelifandro.specs.Done.{IsFit, OnlyTold, TellsUnready, done_of, host_after, stories_of}
 use Rattle.kelifandro.specs.declared.did.Did.{Did}
 use Rattle.kelifandro.specs.declared.request.CRequest.{CRequest}
-use Rattle.kelifandro.proofs.CallLemmas.{both_none, either_call, left_at, open_by, refused_at, tells_counts, tells_none, tells_why, where_none, where_refused}
+use Rattle.kelifandro.proofs.CallLemmas.{both_none, either_call, left_at, open_by, refused_at, tells_counts, tells_none, tells_unready, tells_why, where_none, where_refused}
 use Rattle.kelifandro.proofs.DoneLemmas.{fit_ready, limits_stay}
 use Rattle.kelifandro.proofs.GoesOnLemmas.{goes_on, told_as}
 use Rattle.kelifandro.proofs.HistoryLemmas.{are_sectors}
@@ -25,6 +25,22 @@ returns-clause-judged g c = λ opened how says.
     subst (λ number. TellsWhy c.args.way.now.by why number) (sym (to_z-of_z w32 c.told.result (search rules)))
     (tells_why (λ did. did.answer) c.args.way.now.by why called.result c.told.result c.told.ensures.answer c.told.ensures.why
     called.ensures.fault (λ host. called.ensures.functions host opened how says) (called.ensures.judged how says))
+
+pub returns-clause-unready : goal.returns-clause-unready
+returns-clause-unready g c = λ opened how says.
+    let called = c.serve_by-called in
+    let stories = stories_of g.S.HasStory.story g.S.HasRegisterStory.story in
+    subst (λ (number : ℤ). is_unready number ≡ true → TellsUnready stories (done_of c.told.new.did) number)
+    (sym (to_z-of_z w32 c.told.result (search rules)))
+    (tells_unready (λ came. came.answer) (λ (d : Did) (number : ℤ). TellsUnready stories (done_of d) number) called.result c.told.result
+    called.new.did c.told.new.did c.told.ensures.answer c.told.ensures.why c.told.ensures.none (called.ensures.unready opened how says))
+
+pub returns-clause-no_clock : goal.returns-clause-no_clock
+returns-clause-no_clock g c = λ opened how says.
+    let called = c.serve_by-called in
+    subst (λ (number : ℤ). is_unready number ≡ true → number ≡ minus 23) (sym (to_z-of_z w32 c.told.result (search rules)))
+    (tells_unready (λ came. came.answer) (λ (d : Did) (number : ℤ). number ≡ minus 23) called.result c.told.result
+    called.new.did c.told.new.did c.told.ensures.answer c.told.ensures.why c.told.ensures.none (called.ensures.no_clock opened how says))
 
 pub returns-clause-counted : goal.returns-clause-counted
 returns-clause-counted g c = λ how says.
