@@ -8,6 +8,7 @@ mod protocol;
 mod registers;
 mod runs;
 
+ghost use Rattle.std.specs.Prelude.{◌≡◌};
 ghost use Rattle.mmc_card.specs.declared.exchange.Width.TheVariants.{Eight};
 ghost use Rattle.mmc_sdhci.specs.Driver.{IsNew};
 ghost use Rattle.mmc_sdhci.specs.Moving.{WhereKept};
