@@ -1,17 +1,16 @@
 -- What was written is read back.
-use Rattle.std.proofs.Common.{◌∙◌, ◌≡◌, ◌∷◌, ◌++◌, ◌+◌, ◌*◌, ◌-◌, ◌<◌, ◌≤◌, [], Bool, List, ap, arith, inl, inr, length, refl, subst, sym, true, false, ℕ, ℤ}
+use Rattle.std.proofs.Common.{◌∙◌, ◌≡◌, ◌∷◌, ◌++◌, ◌+◌, ◌*◌, ◌-◌, ◌<◌, [], Bool, List, ap, arith, inl, inr, length, refl, subst, sym, true, ℕ, ℤ}
 use Rattle.std.proofs.lemmas.Bool.{eq-eqb, false≢true, le-leb, lt-ltb}
 use Rattle.std.proofs.lemmas.List.{ext_get_or}
-use Rattle.std.specs.Prelude.{◌&&◌, ◌==◌, ◌⊎◌, if◌then◌else◌, nat_le, nat_lt, pos, slice_index_or}
+use Rattle.std.specs.Prelude.{if◌then◌else◌, pos, slice_index_or}
 use Rattle.mmc_bus.specs.declared.cause.Cause.{Cause}
 use Rattle.mmc_bus.specs.declared.cause.Cause.TheVariants as cause
 use Rattle.mmc_card.specs.Card.{Card}
 use Rattle.mmc_card.specs.Made.{Made}
-use Rattle.mmc_card.specs.Sectors.{AreRead, Change, IsIn, Same, Sector, Sets, changed, part_number, pieces, touches, value_of}
+use Rattle.mmc_card.specs.Sectors.{AreRead, Change, IsIn, Sector, Sets, changed, part_number, pieces, touches, value_of}
 use Rattle.mmc_card.specs.declared.exchange.Lines.{Lines}
 use Rattle.mmc_card.specs.declared.part.Part.{Part}
 use Rattle.mmc_block.specs.Alone.{IsServedAlone, idle}
-use Rattle.mmc_block.specs.Changes.{change_of}
 use Rattle.mmc_block.specs.Machine.{Completes, Decides, IsAnswered as Means, IsMerged, Machine, Starts, Waiting}
 use Rattle.mmc_block.specs.declared.completion.Answer.{Answer}
 use Rattle.mmc_block.specs.declared.completion.Answer.TheVariants as Gave
@@ -21,7 +20,6 @@ use Rattle.mmc_requests.specs.declared.kind.Kind.{Kind}
 use Rattle.mmc_requests.specs.declared.kind.Kind.TheVariants as to
 use Rattle.mmc_switch.specs.declared.info.Info.{Info}
 use Rattle.kelifandro.specs.Answers.{cause_number}
-use Rattle.kelifandro.specs.Asked.{AreWhole}
 use Rattle.kelifandro.specs.Calls.{is_attempted}
 use Rattle.kelifandro.specs.History.{AreSteps, Call, HasServed, IsAnswered, IsStep, TellsAnswer, Told, joined, request_by}
 use Rattle.kelifandro.specs.History.Call.{Closed, Opened, Served}

@@ -1,5 +1,5 @@
 -- What comes of a sector that is written and read back.
-use Rattle.std.specs.Prelude.{◌++◌, ◌∷◌, ◌≡◌, [], List, length, pos, ℤ}
+use Rattle.std.specs.Prelude.{◌++◌, ◌∷◌, ◌≡◌, [], List, length, pos}
 use Rattle.mmc_card.specs.Card.{Card}
 use Rattle.mmc_card.specs.declared.exchange.Lines.{Lines}
 use Rattle.mmc_requests.specs.declared.kind.Kind.TheVariants.{Read, Write}
