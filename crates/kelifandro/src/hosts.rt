@@ -3,6 +3,7 @@ ghost use Rattle.std.specs.Prelude.{◌≡◌, IfErr, IfOk, IsOk, false, pos, tr
 ghost use Rattle.mmc_host.specs.HostStates.{IsBetween, begun};
 ghost use Rattle.mmc_host.specs.Hosts.{IsUnused, Where};
 ghost use Rattle.mmc_sdhci.specs.Driver.{IsNew, IsReady};
+ghost use Rattle.mmc_sdhci.specs.Moving.{WhereKept};
 ghost use Rattle.c_host.specs.declared.given.WayRecord.{WayRecord};
 ghost use Rattle.kelifandro.specs.Answers.{is_unready, minus};
 ghost use Rattle.kelifandro.specs.Calls.{is_attempted};
@@ -185,6 +186,8 @@ pub fn switch_off<S: HasStory + HasRegisterStory>(way: &WayRecord, did: &mut Did
     requires still { AtRegisters (stories_of S.HasStory.story S.HasRegisterStory.story) way.now (done_of did.old) IsNew }
     ensures stays { OnlyTold (host_after (stories_of S.HasStory.story S.HasRegisterStory.story) way.now (done_of did.old))
         (host_after (stories_of S.HasStory.story S.HasRegisterStory.story) way.now (done_of did.new)) }
+    ensures unpowered { AtRegisters (stories_of S.HasStory.story S.HasRegisterStory.story) way.now (done_of did.new)
+        (λ controller. WhereKept controller (controller.settings.power ≡ 0)) }
     ensures still_again { AtRegisters (stories_of S.HasStory.story S.HasRegisterStory.story) way.now (done_of did.new) IsNew }
 {
     match given_by(way) {
