@@ -1,4 +1,4 @@
-/* Of the crates as they are at commit 38c804a6b781c50fe1c01f9c1eae5d3eb2a5251c,
+/* Of the crates as they are at commit e9df87f6952d7e1f81ca1256cfa16c109c02fccb,
    by the toolchain rattle-kit-13f logic dac8208d650f15bf. `c/generate --made` makes it anew. */
 /* Made by c/generate of the proved library: not for editing. C99, freestanding; it needs memcpy and memset, and the functions
    kelifandro_put and kelifandro_get of kelifandro.c. Each function's name in Rattle stands above it. What is
