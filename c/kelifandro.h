@@ -72,6 +72,28 @@ enum kelifandro_result {
     KELIFANDRO_LOCKED = -26
 };
 
+/* What the calls of kelifandro_queue.h answer besides. kelifandro_queue_text has a text for each. */
+enum kelifandro_queue_result {
+    /* The request was accepted, and has no answer yet. */
+    KELIFANDRO_WAITING = 1,
+    /* All slots are taken: it may be submitted again once something is answered. */
+    KELIFANDRO_FULL = -8,
+    /* What it asks is none of the four kinds, or one that this library was built without. */
+    KELIFANDRO_KIND = -9,
+    /* A pointer is null that has to lead to something. */
+    KELIFANDRO_NO_POINTER = -27,
+    /* A queue has no slot, or more than 256; its memory to gather in has no sector. */
+    KELIFANDRO_SLOTS = -28,
+    KELIFANDRO_GATHER = -29,
+    /* No such request is without an answer. */
+    KELIFANDRO_UNKNOWN = -30,
+    /* It is in service: the request that is to be given back or was submitted before, or the queue that is to be opened or closed. */
+    KELIFANDRO_IN_SERVICE = -31,
+    /* As answers: its client took it back, or the queue was closed first. */
+    KELIFANDRO_GIVEN_BACK = -32,
+    KELIFANDRO_CLOSED = -33
+};
+
 const char *kelifandro_text(int32_t result);
 
 /* Responses (SD Physical Layer 6.00, section 4.9). */
@@ -234,6 +256,9 @@ enum kelifandro_part {
     KELIFANDRO_GP4,
     KELIFANDRO_NO_PART = 0x7fffffff /* no partition: so that a compiler for Arm takes four bytes for any of them */
 };
+
+/* What a request does. */
+enum kelifandro_kind { KELIFANDRO_READS, KELIFANDRO_WRITES, KELIFANDRO_ERASES, KELIFANDRO_TRIMS };
 
 /* What was met and healed since the card was opened, counted: by the answers alone a card that fails at every tenth command looks
    healthy. Attempts of requests that failed for good are among them; what opening met isn't. Each count stays at its largest number once

@@ -39,12 +39,12 @@ enum kelifandro_record {
     KELIFANDRO_LAST_LINE = 0x23
 };
 
-/* A request (crates/kelifandro/src/asked.rt): what is done with so many sectors of a partition, from this one on. */
+/* A request (crates/kelifandro/src/asked.rt): what is done with so many sectors of a partition, from this one on. `kind` is an enum
+   kelifandro_kind. */
 struct kelifandro_asked {
     uint64_t start, count;
     uint32_t part, kind;
 };
-enum kelifandro_kind { KELIFANDRO_READS, KELIFANDRO_WRITES, KELIFANDRO_ERASES, KELIFANDRO_TRIMS };
 
 /* Of the library: `way` is a struct kelifandro_way, `card` a struct kelifandro_card, `healed` a struct kelifandro_healed, `asked` a struct
    kelifandro_asked, `blocks` so many blocks of 512 bytes, to which only a read writes, `done` a uint64_t, which tells how many of them
@@ -54,6 +54,21 @@ int32_t kelifandro_serve_by(const void *way, void *card, void *healed, const voi
 int32_t kelifandro_serve_long_by(const void *way, void *card, void *healed, const void *asked, void *blocks, uint64_t count, void *done);
 uint64_t kelifandro_sectors_by(const void *way, const void *card, uint32_t part);
 void kelifandro_close_by(const void *way);
+
+/* Of the library, where a queue is used: `slots` are so many of struct kelifandro_slot, of any bytes, `card` and `asked` as above, and
+   `next` a uint64_t, the next ticket. None of these calls waits or reaches a card. A number of C's own, `whose`, is kept in a slot and
+   looked at by nobody.
+   submit: the refusal by what is known of the card, or KELIFANDRO_FULL; or KELIFANDRO_WAITING, and then the request waits by the ticket
+   that `next` was, and `next` is one more. Others may have changed their slots.
+   cancel: KELIFANDRO_DONE, and then the request waits no longer; KELIFANDRO_IN_SERVICE; or KELIFANDRO_UNKNOWN.
+   start: 1 where requests have gone into service, and then `asked` is what serves all of them at once; or 0 where none waits, and then it
+   is as it was. At most so many sectors are joined.
+   conclude: what is in service is done, or has failed: 1 where it is answered by that and has left its slots, 0 where it is to be served
+   again, one request at a time. */
+int32_t kelifandro_submit_by(const void *card, void *slots, uint64_t count, void *next, const void *asked, uint32_t client, uint64_t whose);
+int32_t kelifandro_cancel_by(void *slots, uint64_t count, uint64_t ticket);
+uint8_t kelifandro_start_by(void *slots, uint64_t count, uint64_t most, void *asked);
+uint8_t kelifandro_conclude_by(void *slots, uint64_t count, uint8_t is_done);
 
 #ifdef KELIFANDRO_H
 /* The library knows these structs by their places (crates/mmc_record/src/record.rt, crates/mmc_recovery/src/healed.rt), the lowest byte of
@@ -78,6 +93,13 @@ KELIFANDRO_IS_SO(healed, sizeof(struct kelifandro_healed) == 64);
 KELIFANDRO_IS_SO(part, sizeof(enum kelifandro_part) == 4);
 KELIFANDRO_IS_SO(way, sizeof(struct kelifandro_way) == 20);
 KELIFANDRO_IS_SO(asked, sizeof(struct kelifandro_asked) == 24);
+#ifdef KELIFANDRO_QUEUE_H
+KELIFANDRO_IS_SO(whose, offsetof(struct kelifandro_slot, whose) == 8);
+KELIFANDRO_IS_SO(client, offsetof(struct kelifandro_slot, client) == 24);
+KELIFANDRO_IS_SO(slot_state, offsetof(struct kelifandro_slot, state) == 28);
+KELIFANDRO_IS_SO(answer, offsetof(struct kelifandro_slot, answer) == 31);
+KELIFANDRO_IS_SO(slot, sizeof(struct kelifandro_slot) == 32);
+#endif
 #if defined __BYTE_ORDER__ && __BYTE_ORDER__ != __ORDER_LITTLE_ENDIAN__
 #error "struct kelifandro_card has the lowest byte of a number first: this processor has the highest first"
 #endif

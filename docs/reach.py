@@ -16,6 +16,8 @@ RELATION = [("mmc_bus", "Bus")]
 DIRECT = [("mmc_direct", name) for name in ("read", "write", "erase")]
 # The calls of C, with their history.
 C = [("kelifandro", name) for name in ("open", "serve", "close")]
+# The calls of a queue of C's, with theirs.
+QUEUE = [("kelifandro", name) for name in ("submit", "cancel", "start", "carry_out", "conclude", "history")]
 # What is said of the card and of its host: all else stands above them.
 BELOW = {"mmc_frame", "mmc_regs", "mmc_ext_csd", "mmc_card", "mmc_bus", "mmc_host"}
 

@@ -1,6 +1,7 @@
-//! Compiles the library's two C files for the target, by its C compiler, and has them linked.
+//! Compiles the library's C files for the target, by its C compiler, and has them linked.
 //!
-//! They are those of the repository, `c/kelifandro.c` and `c/made/kelifandro_core.c`, or those of the folder that KELIFANDRO_C names.
+//! They are those of the repository, `c/kelifandro.c`, `c/kelifandro_queue.c` and both of `c/made`, or those of the folder that
+//! KELIFANDRO_C names.
 
 #[path = "build/cc.rs"]
 mod cc;
@@ -26,8 +27,8 @@ fn find(folder: &Path, name: &str) -> Result<PathBuf, cc::Fault> {
         .find(|path| path.is_file())
         .ok_or_else(|| {
             format!(
-                "there is no {name} in {}: KELIFANDRO_C names a folder that has kelifandro.c, kelifandro.h, \
-                 kelifandro_core.c and kelifandro_core.h, as the repository's c/ and the distribution do",
+                "there is no {name} in {}: KELIFANDRO_C names a folder that has kelifandro.c, kelifandro_queue.c, \
+                 kelifandro_core.c, kelifandro_queue_core.c and their headers, as the repository's c/ and the distribution do",
                 folder.display()
             )
         })
@@ -54,15 +55,26 @@ fn build() -> Result<(), cc::Fault> {
     let core_header = find(&folder, "kelifandro_core.h")?;
     let core = find(&folder, "kelifandro_core.c")?;
     let functions = find(&folder, "kelifandro.c")?;
+    let queue_header = find(&folder, "kelifandro_queue.h")?;
+    let queue = find(&folder, "kelifandro_queue.c")?;
+    let queue_core = find(&folder, "kelifandro_queue_core.c")?;
     let mut folders = Vec::new();
-    for path in [&header, &core_header, &functions, &core] {
+    for path in [
+        &header,
+        &core_header,
+        &queue_header,
+        &functions,
+        &queue,
+        &core,
+        &queue_core,
+    ] {
         println!("cargo:rerun-if-changed={}", path.display());
         folders.extend(path.parent().map(Path::to_path_buf));
     }
     let own = Path::new(env!("CARGO_MANIFEST_DIR"));
     folders.push(own.join("../c")); // arm.h, where the folder hasn't it
     folders.dedup();
-    let sources = [functions, core, own.join("src/layout.c")];
+    let sources = [functions, queue, core, queue_core, own.join("src/layout.c")];
     cc::Compiler::of_target()?.archive("kelifandro_c", &sources, &folders)
 }
 

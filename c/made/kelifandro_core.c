@@ -1,5 +1,5 @@
-/* Of the crates as they are at commit e9df87f6952d7e1f81ca1256cfa16c109c02fccb,
-   by the toolchain rattle-kit-13f logic dac8208d650f15bf. `c/generate --made` makes it anew. */
+/* Of the crates of the commit that this file lies in, which its merge gate compares; by the toolchain
+   rattle-kit-13b logic dac8208d650f15bf. `c/generate --made` makes it anew. */
 /* Made by c/generate of the proved library: not for editing. C99, freestanding; it needs memcpy and memset, and the functions
    kelifandro_put and kelifandro_get of kelifandro.c. Each function's name in Rattle stands above it. What is
    marked as any is of no weight: it may be any number. */
@@ -389,14 +389,14 @@ static const KELIFANDRO_ROOM uint8_t bytes_static_5[1] = {
     18,
 };
 
-static const KELIFANDRO_ROOM uint8_t bytes_command_send[28] = {
-    0, 0, 0, 0, 0, 0, 26, 0, 0, 0, 26, 0, 0, 0, 9, 0, 0, 0, 2, 0, 0, 0, 26, 0,
-    0, 0, 26, 0,
-};
-
 static const KELIFANDRO_ROOM uint8_t bytes_answers_refused_number[32] = {
     254, 255, 255, 255, 252, 255, 255, 255, 252, 255, 255, 255, 253, 255, 255, 255, 251, 255, 255, 255, 250, 255, 255, 255,
     250, 255, 255, 255, 250, 255, 255, 255,
+};
+
+static const KELIFANDRO_ROOM uint8_t bytes_command_send[28] = {
+    0, 0, 0, 0, 0, 0, 26, 0, 0, 0, 26, 0, 0, 0, 9, 0, 0, 0, 2, 0, 0, 0, 26, 0,
+    0, 0, 26, 0,
 };
 
 static const KELIFANDRO_ROOM uint8_t bytes_opening_open_once[20] = {
@@ -410,6 +410,8 @@ static void bits_read_checked(uint8_t *a0, uint8_t *a1);
 static bool register_response_check_fits(uint8_t *a0);
 static void csd_read_csd(uint8_t *a0, uint8_t a1, uint8_t *a2);
 static uint64_t Sizes_of(uint8_t *a0, uint8_t a1);
+static void AskedRecord_asked(uint8_t *a0, uint8_t *a1);
+static struct of_i8_i8 rules_sectors_refusal(uint64_t a0, uint8_t a1, uint8_t *a2, uint8_t a3, uint64_t a4, uint64_t a5);
 static void hosts_switch_off(uint8_t *a0);
 static void given_given_by(uint8_t *a0, uint8_t *a1);
 static void CFunctions_set_power(uint8_t *a0, bool a1);
@@ -420,12 +422,10 @@ static uint32_t Stream_read_register(uint8_t *a0, uint8_t a1, uint8_t a2);
 static void Stream_ask(uint8_t *a0, uint8_t *a1, uint64_t a2, uint8_t *a3, uint64_t a4);
 static uint64_t io_read_full(uint32_t a0, uint8_t *a1, uint64_t a2);
 static void Stream_write_register(uint8_t *a0, uint8_t a1, uint8_t a2, uint32_t a3);
-static void AskedRecord_asked(uint8_t *a0, uint8_t *a1);
 static uint32_t requests_serve_told(uint8_t *a0, uint8_t *a1, uint8_t *a2, uint8_t *a3, uint8_t *a4, uint64_t a5);
 static uint32_t CRegistersRegisters_read32(uint8_t *a0, uint8_t a1);
 static uint8_t StoryRegistersRegisters_read8(uint8_t *a0, uint8_t a1);
 static uint8_t CRegisters_read_in_word(uint8_t *a0, uint8_t a1);
-static struct of_i8_i8 rules_sectors_refusal(uint64_t a0, uint8_t a1, uint8_t *a2, uint8_t a3, uint64_t a4, uint64_t a5);
 static void noted_note(uint8_t *a0, uint8_t *a1);
 static void noted_noted(uint8_t *a0, uint8_t *a1, uint8_t a2, uint8_t a3);
 static void u128_to_be_bytes(uint8_t *a0, u128 a1);
@@ -946,6 +946,57 @@ join_8: {
 }
 }
 
+/* kelifandro::asked::AskedRecord::asked */
+static void AskedRecord_asked(uint8_t *a0, uint8_t *a1)
+{
+    uint64_t sink;
+    uint32_t r13 = load32_aligned(a1 + 16);
+    if (!((r13 < 256u) && ((uint8_t)r13 < 7u))) {
+        sink = 0u;
+        goto common_ret;
+    }
+    uint64_t r37 = load64_aligned(a1);
+    uint64_t r39 = load64_aligned(a1 + 8);
+    store64(a0 + 8, (uint64_t)(umin32(load32_aligned(a1 + 20), 3u) | (r13 << 8u)));
+    store64(a0 + 16, r37);
+    store64(a0 + 24, r39);
+    sink = 1u;
+common_ret: {
+    store64(a0, sink);
+    return;
+}
+}
+
+/* mmc_requests::rules::sectors_refusal */
+static struct of_i8_i8 rules_sectors_refusal(uint64_t a0, uint8_t a1, uint8_t *a2, uint8_t a3, uint64_t a4, uint64_t a5)
+{
+    uint8_t r0_0_0;
+    uint8_t r0_3_0;
+    uint64_t r7 = Sizes_of(a2 + 64, a3);
+    if (r7 == 0u) {
+        r0_0_0 = 1u;
+        r0_3_0 = 0u;
+        goto return_5;
+    }
+    if (a5 == 0u) {
+        r0_0_0 = 1u;
+        r0_3_0 = 1u;
+        goto return_5;
+    }
+    if ((a1 < 2u) && (a0 < a5)) {
+        r0_0_0 = 1u;
+        r0_3_0 = 2u;
+        goto return_5;
+    }
+    r0_0_0 = (uint8_t)((r7 < a5) || ((r7 - a5) < a4));
+    r0_3_0 = 3u;
+return_5: {
+    struct of_i8_i8 r68_fca_0_insert = (struct of_i8_i8){r0_0_0, 0};
+    struct of_i8_i8 r68_fca_1_insert = (struct of_i8_i8){r68_fca_0_insert.f0, r0_3_0};
+    return r68_fca_1_insert;
+}
+}
+
 /* kelifandro::hosts::switch_off::<#fb070baa9c134c3e> */
 static void hosts_switch_off(uint8_t *a0)
 {
@@ -1121,27 +1172,6 @@ static void Stream_write_register(uint8_t *a0, uint8_t a1, uint8_t a2, uint32_t 
     store32(r15 + 3, a3);
     io_write_all(load32_aligned(a0), r15, 7u);
     return;
-}
-
-/* kelifandro::asked::AskedRecord::asked */
-static void AskedRecord_asked(uint8_t *a0, uint8_t *a1)
-{
-    uint64_t sink;
-    uint32_t r13 = load32_aligned(a1 + 16);
-    if (!((r13 < 256u) && ((uint8_t)r13 < 7u))) {
-        sink = 0u;
-        goto common_ret;
-    }
-    uint64_t r37 = load64_aligned(a1);
-    uint64_t r39 = load64_aligned(a1 + 8);
-    store64(a0 + 8, (uint64_t)(umin32(load32_aligned(a1 + 20), 3u) | (r13 << 8u)));
-    store64(a0 + 16, r37);
-    store64(a0 + 24, r39);
-    sink = 1u;
-common_ret: {
-    store64(a0, sink);
-    return;
-}
 }
 
 /* kelifandro::requests::serve_told::<#fb070baa9c134c3e> */
@@ -1689,36 +1719,6 @@ static uint8_t CRegisters_read_in_word(uint8_t *a0, uint8_t a1)
     store32_aligned(r2, r7);
     uint8_t r15 = *at(r2, (uint64_t)(uint8_t)(a1 & 3u));
     return r15;
-}
-
-/* mmc_requests::rules::sectors_refusal */
-static struct of_i8_i8 rules_sectors_refusal(uint64_t a0, uint8_t a1, uint8_t *a2, uint8_t a3, uint64_t a4, uint64_t a5)
-{
-    uint8_t r0_0_0;
-    uint8_t r0_3_0;
-    uint64_t r7 = Sizes_of(a2 + 64, a3);
-    if (r7 == 0u) {
-        r0_0_0 = 1u;
-        r0_3_0 = 0u;
-        goto return_5;
-    }
-    if (a5 == 0u) {
-        r0_0_0 = 1u;
-        r0_3_0 = 1u;
-        goto return_5;
-    }
-    if ((a1 < 2u) && (a0 < a5)) {
-        r0_0_0 = 1u;
-        r0_3_0 = 2u;
-        goto return_5;
-    }
-    r0_0_0 = (uint8_t)((r7 < a5) || ((r7 - a5) < a4));
-    r0_3_0 = 3u;
-return_5: {
-    struct of_i8_i8 r68_fca_0_insert = (struct of_i8_i8){r0_0_0, 0};
-    struct of_i8_i8 r68_fca_1_insert = (struct of_i8_i8){r68_fca_0_insert.f0, r0_3_0};
-    return r68_fca_1_insert;
-}
 }
 
 /* mmc_record::noted::note */
@@ -7014,9 +7014,9 @@ static void Sdhci_move_blocks(uint8_t *a0, uint8_t *a1, uint8_t *a2, uint64_t a3
     uint64_t v7;
     uint16_t v10;
     uint16_t v11;
-    uint32_t r1_014;
-    uint8_t r0_4_0_50;
-    uint8_t r0_0_0_48;
+    uint32_t r1_05;
+    uint8_t r0_3_0_51;
+    uint8_t r0_0_0_49;
     memcpy(r1, a2, 16);
     if (!((a1[68] & 1u) != 0)) {
         store64(a0, 0u);
@@ -7125,7 +7125,7 @@ join_6: {
     HostState_sent(r15, r16_2, r1, v12);
     memcpy(a1 + 32, r15, 36);
     if (v12) {
-        r1_014 = 0u;
+        r1_05 = 0u;
         goto join_5_2;
     }
     uint8_t v13 = r3[1];
@@ -7140,27 +7140,27 @@ join_6: {
     goto common_ret;
 }
 join_5_2: {
-    uint32_t r6_12 = Stream_read_register(a1, 4u, 48u);
-    if (!((uint32_t)(r6_12 & 32768u) == 0u)) {
+    uint32_t r6_4 = Stream_read_register(a1, 4u, 48u);
+    if ((uint32_t)(r6_4 & 32770u) == 0u) {
+        Stream_pause(a1, (r1_05 < 1000u) ? 1u : 50u);
+        uint32_t r27_28 = r1_05 + 1u;
+        if (r27_28 != UINT32_C(0x31128)) {
+            r1_05 = r27_28;
+            goto join_5_2;
+        }
         command_reset_data(a1);
-        r0_4_0_50 = (uint8_t)(((r6_12 & UINT32_C(0x600000)) == 0u) ? 2u : 1u);
-        r0_0_0_48 = 1u;
+        r0_3_0_51 = 2u;
+        r0_0_0_49 = 1u;
         goto join_13;
     }
-    if (!((uint32_t)(r6_12 & 2u) == 0u)) {
-        r0_4_0_50 = 0u; /* any */
-        r0_0_0_48 = 0u;
+    if ((uint32_t)(r6_4 & 32768u) == 0u) {
+        r0_3_0_51 = 0u; /* any */
+        r0_0_0_49 = 0u;
         goto join_13;
-    }
-    Stream_pause(a1, (r1_014 < 1000u) ? 1u : 50u);
-    uint32_t r46 = r1_014 + 1u;
-    if (r46 != UINT32_C(0x31128)) {
-        r1_014 = r46;
-        goto join_5_2;
     }
     command_reset_data(a1);
-    r0_4_0_50 = 2u;
-    r0_0_0_48 = 1u;
+    r0_3_0_51 = (uint8_t)(((r6_4 & UINT32_C(0x600000)) == 0u) ? 2u : 1u);
+    r0_0_0_49 = 1u;
 }
 join_13: {
     store16(a1 + 40, 0u);
@@ -7173,8 +7173,8 @@ join_13: {
     a0[9] = v18;
     a0[12] = v19;
     memcpy(a0 + 13, r3 + 5, 15);
-    a0[32] = r0_0_0_48;
-    a0[33] = r0_4_0_50;
+    a0[32] = r0_0_0_49;
+    a0[33] = r0_3_0_51;
     store64(a0 + 40, a4);
 }
 common_ret: {

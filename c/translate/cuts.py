@@ -34,3 +34,11 @@ def without(lines, words):
     lost = [pattern.pattern for pattern, count in patterns.items() if not count]
     if lost:
         raise LookupError('no function is called %s' % ', '.join(lost))
+
+
+def kept(lines, has):
+    """The lines of a module that exports only what a file has: nobody else calls the rest any more, and the compiler leaves it out."""
+    for line in lines:
+        start = DEFINITION.match(line)
+        is_other = start and not re.match(r'define (internal|private) ', line) and not has(start[1] or start[2])
+        yield line.replace('define ', 'define internal ', 1) if is_other else line

@@ -285,6 +285,11 @@ impl<W: Way> SdCard<W> {
         &mut self.way
     }
 
+    /// Both, for a call of a queue.
+    pub(crate) fn parts(&mut self) -> (&mut W, &mut Raw) {
+        (&mut self.way, &mut self.raw)
+    }
+
     /// The way to the card, which isn't known any more then.
     pub fn into_way(self) -> W {
         self.way

@@ -2,7 +2,8 @@
 
 use core::fmt;
 
-/// What a call fails by: a variant for each number of `enum kelifandro_result`.
+/// What a call fails by: a variant for each number of `enum kelifandro_result`, and from [`Full`] to [`Closed`] for each of
+/// `enum kelifandro_queue_result`, which the calls of a [queue](crate::queue) answer besides.
 ///
 /// A request that is refused by one of the first seven was told neither to the card nor to its host. Which one comes is the first of
 /// these that holds: [`NoPartition`] where there can't be such a one, [`NotOpen`], [`NoBaseClock`], [`NoPartition`] where this card
@@ -15,6 +16,8 @@ use core::fmt;
 /// [`OutOfRange`]: Error::OutOfRange
 /// [`ReadOnly`]: Error::ReadOnly
 /// [`NotErasable`]: Error::NotErasable
+/// [`Full`]: Error::Full
+/// [`Closed`]: Error::Closed
 #[derive(Clone, Copy, Debug, PartialEq, Eq, Hash)]
 #[non_exhaustive]
 pub enum Error {
@@ -24,7 +27,7 @@ pub enum Error {
     NoPartition,
     /// Sectors that are named lie past the partition's end.
     OutOfRange,
-    /// No sector is named, or more than 65,535 of a read or a write.
+    /// No sector is named, or more than 65,535 of a read or a write, by a queue more than 1,024.
     Count,
     /// The card is write protected.
     ReadOnly,
@@ -59,6 +62,24 @@ pub enum Error {
     CardVoltage,
     /// The card is locked by a password (SD Physical Layer Simplified Specification 6.00, section 4.3.7).
     Locked,
+    /// All slots of a queue are taken: the request may be submitted again once something is answered.
+    Full,
+    /// What a request asks is none of the four kinds, or one that the library was built without.
+    Kind,
+    /// A pointer is null that has to lead to something, which doesn't happen from here.
+    NoPointer,
+    /// A queue has no slot, or more than 256.
+    Slots,
+    /// A queue's memory to gather in has no sector.
+    Gather,
+    /// A request that is to be given back has its answer.
+    NotWaiting,
+    /// It is in service: the request that is to be given back, or the queue that is to be opened, which has a worker.
+    InService,
+    /// The answer of a request that its client took back.
+    GivenBack,
+    /// The answer of a request that waited when the queue was closed.
+    Closed,
     /// A number that this crate doesn't know, of a library that is newer.
     Unknown(i32),
 }
@@ -86,12 +107,21 @@ impl Error {
             Error::NotInserted => -24,
             Error::CardVoltage => -25,
             Error::Locked => -26,
+            Error::Full => -8,
+            Error::Kind => -9,
+            Error::NoPointer => -27,
+            Error::Slots => -28,
+            Error::Gather => -29,
+            Error::NotWaiting => -30,
+            Error::InService => -31,
+            Error::GivenBack => -32,
+            Error::Closed => -33,
             Error::Unknown(number) => number,
         }
     }
 
     /// All that are known.
-    pub(crate) const ALL: [Error; 19] = [
+    pub(crate) const ALL: [Error; 28] = [
         Error::NotOpen,
         Error::NoPartition,
         Error::OutOfRange,
@@ -111,6 +141,15 @@ impl Error {
         Error::NotInserted,
         Error::CardVoltage,
         Error::Locked,
+        Error::Full,
+        Error::Kind,
+        Error::NoPointer,
+        Error::Slots,
+        Error::Gather,
+        Error::NotWaiting,
+        Error::InService,
+        Error::GivenBack,
+        Error::Closed,
     ];
 
     /// What a call of the library has answered.
@@ -118,10 +157,15 @@ impl Error {
         if number == 0 {
             return Ok(());
         }
+        Err(Error::of(number))
+    }
+
+    /// The one of this number, which isn't 0.
+    pub(crate) fn of(number: i32) -> Error {
         let known = Error::ALL
             .into_iter()
             .find(|error| error.number() == number);
-        Err(known.unwrap_or(Error::Unknown(number)))
+        known.unwrap_or(Error::Unknown(number))
     }
 }
 
@@ -147,6 +191,15 @@ impl fmt::Display for Error {
             Error::NotInserted => "no card is inserted",
             Error::CardVoltage => "the card doesn't work at 3.3 V",
             Error::Locked => "the card is locked",
+            Error::Full => "too many requests wait",
+            Error::Kind => "no such kind of request",
+            Error::NoPointer => "a pointer is null",
+            Error::Slots => "no slot, or more than 256",
+            Error::Gather => "no sector to gather in",
+            Error::NotWaiting => "no such request waits",
+            Error::InService => "in service",
+            Error::GivenBack => "given back",
+            Error::Closed => "the queue was closed",
             Error::Unknown(_) => "no such result",
         })
     }

@@ -1,5 +1,5 @@
 /* What a test of src/sys.rs compares with its structs: sizes and places, as the compiler of C has them. */
-#include "kelifandro.h"
+#include "kelifandro_queue.h"
 
 #define PLACE(type, field) offsetof(struct type, field)
 
@@ -24,6 +24,17 @@ const size_t kelifandro_rust_layout[] = {
     PLACE(kelifandro_healed, settlings), PLACE(kelifandro_healed, resets),
     sizeof(struct kelifandro), PLACE(kelifandro, registers), PLACE(kelifandro, card), PLACE(kelifandro, healed), PLACE(kelifandro, scr),
     PLACE(kelifandro, ext_csd), PLACE(kelifandro, was_reset), PLACE(kelifandro, call), sizeof(enum kelifandro_part),
+    sizeof(struct kelifandro_request), PLACE(kelifandro_request, part), PLACE(kelifandro_request, client), PLACE(kelifandro_request, start),
+    PLACE(kelifandro_request, count), PLACE(kelifandro_request, memory), PLACE(kelifandro_request, answered),
+    PLACE(kelifandro_request, context), PLACE(kelifandro_request, result), PLACE(kelifandro_request, ticket),
+    PLACE(kelifandro_request, queue),
+    sizeof(struct kelifandro_slot), PLACE(kelifandro_slot, whose), PLACE(kelifandro_slot, start), PLACE(kelifandro_slot, count),
+    PLACE(kelifandro_slot, client), PLACE(kelifandro_slot, state), PLACE(kelifandro_slot, kind), PLACE(kelifandro_slot, part),
+    PLACE(kelifandro_slot, answer),
+    sizeof(struct kelifandro_queue), PLACE(kelifandro_queue, slots), PLACE(kelifandro_queue, count), PLACE(kelifandro_queue, gather),
+    PLACE(kelifandro_queue, gather_sectors), PLACE(kelifandro_queue, lock), PLACE(kelifandro_queue, unlock), PLACE(kelifandro_queue, wake),
+    PLACE(kelifandro_queue, context), PLACE(kelifandro_queue, opened), PLACE(kelifandro_queue, next), PLACE(kelifandro_queue, is_open),
+    PLACE(kelifandro_queue, is_turning), PLACE(kelifandro_queue, members),
 };
 
 const size_t kelifandro_rust_layout_length = sizeof kelifandro_rust_layout / sizeof *kelifandro_rust_layout;

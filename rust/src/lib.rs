@@ -28,7 +28,7 @@
 //! The library, which was C's before: over any answers of a host each call returns, after a counted number of exchanges, and nothing
 //! overflows or is indexed out of range. Where controller and card conform to the card relation (`docs/STANDARD.md`, "The card"), a
 //! request that is done has exactly its effect, and one that failed leaves each sector that it names old or new and all others
-//! unchanged. This crate isn't proved, nor is `c/kelifandro.c`, nor what makes C of the proved library.
+//! unchanged. This crate isn't proved, nor are `c/kelifandro.c` and `c/kelifandro_queue.c`, nor what makes C of the proved library.
 //!
 //! # Threads, moves and panics
 //!
@@ -38,6 +38,11 @@
 //!
 //! A function of a host that panics doesn't unwind through C: the program is aborted, as `extern "C"` functions do since Rust 1.81,
 //! which is the oldest that this crate is built by.
+//!
+//! # Several clients
+//!
+//! A [`queue`] takes requests of several clients, in threads or interrupts, for one card: clients go on, and one worker serves them,
+//! neighbours together.
 //!
 //! # Features
 //!
@@ -55,6 +60,7 @@ mod card;
 mod error;
 mod host;
 mod info;
+pub mod queue;
 mod registers;
 #[allow(unsafe_code)]
 mod sys;

@@ -873,5 +873,7 @@ pub(crate) fn as_arrays_mut(blocks: &mut [crate::block_device::Block]) -> &mut [
     unsafe { slice::from_raw_parts_mut(blocks.as_mut_ptr().cast(), blocks.len()) }
 }
 
+pub(crate) mod queue;
+
 #[cfg(test)]
 mod tests;

@@ -24,7 +24,7 @@ static void number(uint64_t value)
     hash ^= hash >> 29;
 }
 
-static void bytes(const void *memory, uint64_t n)
+void trace_bytes(const void *memory, uint64_t n)
 {
     const uint8_t *at = memory;
     for (uint64_t i = 0; i < n; i++)
@@ -32,13 +32,18 @@ static void bytes(const void *memory, uint64_t n)
     number(n);
 }
 
-static int32_t ended(int32_t result, const void *card, const void *healed)
+void trace_passed(int64_t answer)
 {
     passed++;
-    number((uint64_t)(int64_t)result);
-    bytes(card, PADDING);
-    bytes((const uint8_t *)card + PADDING_END, sizeof(struct kelifandro_card) - PADDING_END);
-    bytes(healed, sizeof(struct kelifandro_healed));
+    number((uint64_t)answer);
+}
+
+static int32_t ended(int32_t result, const void *card, const void *healed)
+{
+    trace_passed(result);
+    trace_bytes(card, PADDING);
+    trace_bytes((const uint8_t *)card + PADDING_END, sizeof(struct kelifandro_card) - PADDING_END);
+    trace_bytes(healed, sizeof(struct kelifandro_healed));
     return result;
 }
 
@@ -82,7 +87,7 @@ static uint64_t bytes_of(int64_t answer, uint64_t n)
 WRAPPED(int64_t, kelifandro_put, (int32_t stream, const uint8_t *record, uint64_t n))
 {
     passed++;
-    bytes(record, n);
+    trace_bytes(record, n);
     if (!put_again)
         __real_kelifandro_put(stream, record, n);
     int64_t put = in_pieces(n);
@@ -107,7 +112,7 @@ WRAPPED(int64_t, kelifandro_get, (int32_t stream, uint8_t *record, uint64_t n))
     memcpy(record, kept + kept_from, bytes_of(got, room));
     kept_from += bytes_of(got, room);
     number((uint64_t)got);
-    bytes(record, bytes_of(got, n));
+    trace_bytes(record, bytes_of(got, n));
     return got;
 }
 
@@ -121,7 +126,7 @@ WRAPPED(int32_t, kelifandro_serve_by, (const void *way, void *card, void *healed
 {
     int32_t result = ended(__real_kelifandro_serve_by(way, card, healed, asked, blocks, count), card, healed);
     if (result == KELIFANDRO_DONE && ((const struct kelifandro_asked *)asked)->kind == KELIFANDRO_READS)
-        bytes(blocks, 512 * count);
+        trace_bytes(blocks, 512 * count);
     return result;
 }
 
@@ -129,9 +134,9 @@ WRAPPED(int32_t, kelifandro_serve_long_by,
         (const void *way, void *card, void *healed, const void *asked, void *blocks, uint64_t count, void *done))
 {
     int32_t result = ended(__real_kelifandro_serve_long_by(way, card, healed, asked, blocks, count, done), card, healed);
-    bytes(done, 8);
+    trace_bytes(done, 8);
     if (((const struct kelifandro_asked *)asked)->kind == KELIFANDRO_READS)
-        bytes(blocks, 512 * *(uint64_t *)done);
+        trace_bytes(blocks, 512 * *(uint64_t *)done);
     return result;
 }
 

@@ -1,5 +1,5 @@
 -- A request of C, with what its host did in it, is one call more of a history.
-use Rattle.std.proofs.Common.{◌&&◌, ◌∙◌, ◌≡◌, [], Bool, List, ap, false, length, not, refl, subst, sym, true, ℤ}
+use Rattle.std.proofs.Common.{◌&&◌, ◌∙◌, ◌≡◌, [], Bool, List, ap, false, inl, inr, length, not, refl, subst, sym, true, ℤ}
 use Rattle.std.proofs.lemmas.Bool.{false≢true}
 use Rattle.std.specs.Prelude.{Err, IfErr, IfOk, Ok, Result, is_err, is_some}
 use Rattle.mmc_bus.specs.declared.wire.Wire.{Wire}
@@ -17,7 +17,7 @@ use Rattle.mmc_direct.proofs.NotedLemmas.{noted_still, stands_too}
 use Rattle.mmc_direct.specs.Noted.{IsNotedOf, IsServed, Notes, bus_going_on, lines_in}
 use Rattle.mmc_direct.specs.Requests.{Serves}
 use Rattle.mmc_direct.specs.Served.{AnswersBy, IfRefused, refusal_in}
-use Rattle.mmc_direct.specs.declared.asked.Asked.{Asked}
+use Rattle.mmc_requests.specs.declared.asked.Asked.{Asked}
 use Rattle.mmc_direct.specs.declared.refused.NotDone.{NotDone}
 use Rattle.mmc_direct.specs.declared.refused.NotDone.TheVariants.{Failed, Refused as RefusedFor}
 use Rattle.mmc_host.specs.Hosts.{HostView, bus_over}
@@ -35,13 +35,13 @@ use Rattle.mmc_switch.specs.declared.stands.Stands.TheVariants as Stand
 use Rattle.kelifandro.specs.Answers.{answer_number}
 use Rattle.kelifandro.specs.Calls.{is_attempted}
 use Rattle.kelifandro.specs.Done.{IsLeft, OnlyTold}
-use Rattle.kelifandro.specs.History.{Call, GoesOn, HasServed, IsKept, Told}
+use Rattle.kelifandro.specs.History.{Call, GoesOn, HasLeft, HasServed, IsKept, Told}
 use Rattle.kelifandro.specs.History.Call.{Served}
 use Rattle.kelifandro.proofs.CallLemmas.{refused_only, refused_unmade}
 use Rattle.kelifandro.proofs.HistoryLemmas.{AreSectors, leaves_by, none_more, one_more}
 
 -- what is known of a card that stands so is what its registers say
-known_of : (stands : Stands) (view : BusView) → StandsIn stands view → IsKnown view.limits view.card.made (info_of stands)
+pub known_of : (stands : Stands) (view : BusView) → StandsIn stands view → IsKnown view.limits view.card.made (info_of stands)
 known_of (Stand.Ready session) view at = at.knows.info
 known_of (Stand.Broken broken) view at = at.knows.info
 
@@ -129,6 +129,7 @@ module _ (asked : Asked) (before after : List Sector) (were : AreSectors before)
   untouched number unmade memory was_true carried narrows kept = record {
     was_true = was_true;
     kept = kept;
+    left = λ at. inl (record { number = unmade; memory = memory; narrows = narrows });
     served = λ at start earlier h.
         none_more now.limits start was.card now.card earlier (told_by number) unmade memory carried narrows (same_limits start earlier h);
   }
@@ -149,6 +150,30 @@ module _ (asked : Asked) (before after : List Sector) (were : AreSectors before)
         → GoesOn (Served (told_by (answer_number answer))) was note now new
     over_the_bus unmisused l open_card was_kept serves =
         let kept : end.is_kept ≡ true = both left.is_kept misused l.was_kept unmisused in
+        let leaves : IsKept was note → HasLeft now.limits was.card now.card (told_by (answer_number answer)) =
+        λ at.
+        let old = at open_card in
+        let s = serves old.how old.says in
+        let made = s.has kept old.stands in
+        let by =
+        leaves_by (info_of old.how) asked.part asked.start asked.count before after were are long
+        (holds was.card) (holds now.card) asked.kind answer unrefused
+        (λ p n v i. made.changed.within p n v (l.narrows p n v i))
+        (same_done answer l.same (λ (c : Card). TakesEffect (change (info_of old.how)) (holds was.card) (holds c))
+        (subst (λ a. IfOk a (λ _. TakesEffect (change (info_of old.how)) (holds was.card) (holds left.card))) s.answers made.changed.done))
+        (same_done answer l.same (λ (c : Card). AreDecided (holds c))
+        (subst (λ a. IfOk a (λ _. AreDecided (holds left.card))) s.answers
+        (decided_by rests s.served.answer s.served.stands end s.fits made.changed.stands)))
+        (ok_then answer (has (holds now.card)) (same_done answer l.same (λ (c : Card). Has (holds c))
+        (subst (λ a. IfOk a (λ _. Has (holds left.card))) s.answers made.has))) in
+        record {
+          info = info_of old.how;
+          known = subst (λ (ls : Lines). IsKnown ls was.card.made (info_of old.how)) (sym same)
+              (known_of old.how (bus_going_on was (lines_in old.how)) old.stands);
+          answer = by.0;
+          tells = by.1;
+          leaves = by.2;
+        } in
         record {
           was_true = was_kept kept;
           kept = λ at noted.
@@ -158,26 +183,14 @@ module _ (asked : Asked) (before after : List Sector) (were : AreSectors before)
               noted_still s.served.stands now new s.notes
               (left_stands answer s.served.stands left now end unrefused
               (subst (λ a. AnswersBy a s.served.stands) s.answers s.fits) l refl (same ∙ sym changed.stays.limits) changed.stands);
+          left = λ at. inr (leaves at);
           served = λ at start earlier h.
               let old = at open_card in
               let s = serves old.how old.says in
               let made = s.has kept old.stands in
-              let leaves =
-              leaves_by (info_of old.how) asked.part asked.start asked.count before after were are long
-              (holds was.card) (holds now.card) asked.kind answer unrefused
-              (λ p n v i. made.changed.within p n v (l.narrows p n v i))
-              (same_done answer l.same (λ (c : Card). TakesEffect (change (info_of old.how)) (holds was.card) (holds c))
-              (subst (λ a. IfOk a (λ _. TakesEffect (change (info_of old.how)) (holds was.card) (holds left.card))) s.answers made.changed.done))
-              (same_done answer l.same (λ (c : Card). AreDecided (holds c))
-              (subst (λ a. IfOk a (λ _. AreDecided (holds left.card))) s.answers
-              (decided_by rests s.served.answer s.served.stands end s.fits made.changed.stands)))
-              (ok_then answer (has (holds now.card)) (same_done answer l.same (λ (c : Card). Has (holds c))
-              (subst (λ a. IfOk a (λ _. Has (holds left.card))) s.answers made.has))) in
-              one_more now.limits start was.card now.card earlier law
-              (told_by (answer_number answer)) (info_of old.how) leaves.0
-              (subst (λ (ls : Lines). IsKnown ls was.card.made (info_of old.how)) (sym same)
-              (known_of old.how (bus_going_on was (lines_in old.how)) old.stands))
-              leaves.1 leaves.2 (carried_then made.changed.stays.carried l.carried) (same_limits start earlier h);
+              let so = leaves at in
+              one_more now.limits start was.card now.card earlier law (told_by (answer_number answer)) so.info so.answer so.known
+              so.tells so.leaves (carried_then made.changed.stays.carried l.carried) (same_limits start earlier h);
         }
 
   -- whatever became of it

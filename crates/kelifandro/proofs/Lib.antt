@@ -4,5 +4,8 @@ pub mod DoneLemmas
 pub mod GoesOnLemmas
 pub mod HistoryLemmas
 pub mod OpeningLemmas
+pub mod QueueEndLemmas
+pub mod QueueLemmas
+pub mod QueueNumbers
 pub mod RequestLemmas
 pub mod ReadBackLemmas

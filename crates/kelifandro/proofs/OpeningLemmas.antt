@@ -187,6 +187,7 @@ opened_goes_on was now note new number same stays ready not = record {
         | inl done ↦ opened_noted now new (ready done)
         | inr other ↦ absurd (false≢true (sym (closed new (not other)) ∙ noted))
       ];
+  left = λ at. tt;
   served = λ at start earlier h.
       opened_more now.limits start was.card now.card earlier number stays.carried stays.narrows
       (subst (λ (l : Lines). HasServed l start was.card earlier) (sym same) h);

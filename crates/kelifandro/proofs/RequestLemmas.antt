@@ -9,7 +9,7 @@ use Rattle.mmc_bus.specs.Lending.{IsRewritten}
 use Rattle.mmc_bus.specs.Lending.IsRewritten.{block, nothing}
 use Rattle.mmc_card.specs.Sectors.{AreRead, Sector, Sets}
 use Rattle.mmc_card.specs.declared.part.Part.{Part}
-use Rattle.mmc_direct.specs.declared.asked.Asked.{Asked}
+use Rattle.mmc_requests.specs.declared.asked.Asked.{Asked}
 use Rattle.kelifandro.specs.Asked.{kind_with, named_by}
 use Rattle.kelifandro.specs.declared.asked.AskedRecord.{AskedRecord}
 use Rattle.mmc_switch.specs.declared.broken.Broken.{Broken}

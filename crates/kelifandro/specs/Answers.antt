@@ -9,6 +9,11 @@ use Rattle.mmc_requests.specs.declared.refused.Refused.TheVariants.{Empty, NoSuc
 use Rattle.mmc_requests.specs.declared.refused.Refused.TheVariants.{OutOfRange, ReadOnly, TooLong, Unaligned}
 use Rattle.mmc_identify.specs.declared.fault.IdentFault.{IdentFault}
 use Rattle.mmc_identify.specs.declared.fault.IdentFault.TheVariants.{Locked, Mismatch, NoAnswer, Register as IdentRegister, Voltage}
+use Rattle.mmc_slots.specs.declared.acceptance.NotAccepted.{NotAccepted}
+use Rattle.mmc_slots.specs.declared.acceptance.NotAccepted.TheVariants as Not
+use Rattle.mmc_slots.specs.declared.cancellation.CancelFault.{CancelFault}
+use Rattle.mmc_slots.specs.declared.cancellation.CancelFault.TheVariants as fault
+use Rattle.mmc_slots.specs.declared.slot.Slot.{Slot}
 use Rattle.mmc_sdhci.specs.declared.start.StartFault.{StartFault}
 use Rattle.mmc_sdhci.specs.declared.start.StartFault.TheVariants.{NoBaseClock, NoCard, NoVoltage}
 use Rattle.mmc_switch.specs.declared.fault.SwitchFault.TheVariants.{Exchange, Register}
@@ -40,6 +45,16 @@ abbrev pub answer_number : Result Unit NotDone → ℤ
 answer_number (Ok done) = pos 0
 answer_number (Err (RefusedFor why)) = refused_number why
 answer_number (Err (Failed cause)) = cause_number cause
+
+abbrev pub submitted_number : Result Unit NotAccepted → ℤ
+submitted_number (Ok done) = pos 1
+submitted_number (Err (Not.Refused why)) = refused_number why
+submitted_number (Err Not.Full) = minus 8
+
+abbrev pub cancelled_number : Result Slot CancelFault → ℤ
+cancelled_number (Ok slot) = pos 0
+cancelled_number (Err fault.Unknown) = minus 30
+cancelled_number (Err fault.InService) = minus 31
 
 abbrev pub unidentified_number : IdentFault → ℤ
 unidentified_number NoAnswer = minus 20

@@ -1,9 +1,10 @@
 -- A request of C: what it asks for, and what comes of it.
-use Rattle.std.specs.Prelude.{◌<◌, ◌==◌, ◌≡◌, [], List, false, if◌then◌else◌, length, slice_index_or, true, ℕ}
+use Rattle.std.specs.Prelude.{◌-◌, ◌<◌, ◌==◌, ◌≡◌, [], List, false, if◌then◌else◌, length, slice_index_or, true, ℕ}
 use Rattle.mmc_card.specs.Sectors.{AreRead, Change, Sector, Sets}
 use Rattle.mmc_card.specs.declared.part.Part.{Part}
 use Rattle.mmc_direct.specs.Asked.{asked_at}
-use Rattle.mmc_direct.specs.declared.asked.Asked.{Asked}
+use Rattle.mmc_requests.specs.declared.asked.Asked.{Asked}
+use Rattle.mmc_queue.specs.declared.extent.Extent.{Extent}
 use Rattle.mmc_requests.specs.Changes.{change_by}
 use Rattle.mmc_requests.specs.Kinds.{is_read, moves_blocks}
 use Rattle.mmc_requests.specs.declared.kind.Kind.{Kind}
@@ -23,6 +24,10 @@ sectors_by kind count blocks = if moves_blocks kind then length blocks else coun
 -- what a record names, of this partition
 abbrev pub named_by : AskedRecord → Part → Asked
 named_by request part = asked_at (kind_with request.kind) part request.start request.count
+
+-- what is asked for with these sectors, which some requests are together
+abbrev pub asked_by : Extent → Asked
+asked_by extent = asked_at extent.kind extent.part extent.start (extent.end - extent.start)
 
 -- what is asked for with this memory
 abbrev pub asked_with : Asked → List Sector → Asked

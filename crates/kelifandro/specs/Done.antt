@@ -13,7 +13,7 @@ use Rattle.mmc_sdhci.specs.Driver.{IsNew, IsReady, IsUnready, host_over}
 use Rattle.mmc_sdhci.specs.declared.start.StartFault.{StartFault}
 use Rattle.mmc_story.specs.Entry.{Entry}
 use Rattle.mmc_story.specs.Story.{Story, host_with}
-use Rattle.sdhci_story.specs.Access.{Access}
+use Rattle.sdhci_story.specs.Access.{Access, beside_of}
 use Rattle.sdhci_story.specs.RegisterStory as Registers
 use Rattle.sdhci_story.specs.RegisterStory.{RegisterStory}
 use Rattle.c_host.specs.Given.{lines_by, most_by}
@@ -83,7 +83,7 @@ AtRegisters stories way done Holds = (way.by ≡ 0 → ⊥) → Holds (stories.r
 -- This number tells that the controller isn't ready, and why, as it is after what was done.
 abbrev pub TellsUnready : Stories → Done → ℤ → Type 0
 TellsUnready stories done number =
-    (fault : StartFault) × (number ≡ start_number fault) × IsUnready fault (stories.registers.controller done.accesses)
+    (fault : StartFault) × (number ≡ start_number fault) × IsUnready fault (stories.registers.controller done.accesses) (beside_of done.accesses)
 
 -- What a call presumes, and what it leaves. By registers nothing runs at the controller; and where a card is noted all is set that its next
 -- command needs, and nothing is lent.

@@ -13,13 +13,13 @@ use Rattle.mmc_requests.specs.declared.kind.Kind.{Kind}
 use Rattle.mmc_requests.specs.declared.kind.Kind.TheVariants as to
 use Rattle.mmc_queue.specs.declared.request.Request.{Request}
 use Rattle.mmc_queue.specs.declared.request.Request.TheVariants.{Erase, Read, Trim, Write}
-use Rattle.mmc_block.specs.Alone.{IsServedAlone, idle}
+use Rattle.mmc_block.specs.Alone.{IsServedAlone, Leaves, idle}
 use Rattle.mmc_block.specs.Machine.{Machine}
 use Rattle.mmc_block.specs.declared.completion.Answer.{Answer}
 use Rattle.mmc_block.specs.declared.completion.Answer.TheVariants as Gave
 use Rattle.mmc_direct.specs.Noted.{IsNotedOf, bus_going_on}
 use Rattle.mmc_direct.specs.Opened.{IsReadyAs}
-use Rattle.mmc_direct.specs.declared.asked.Asked.{Asked}
+use Rattle.mmc_requests.specs.declared.asked.Asked.{Asked}
 use Rattle.mmc_host.specs.Hosts.{HostView}
 use Rattle.mmc_record.specs.Note.{is_note}
 use Rattle.mmc_record.specs.declared.record.CardRecord.{CardRecord}
@@ -116,10 +116,29 @@ pub record IsOpened (now : HostView) (note : CardRecord) : Type 0 where
   pub lines : Lines
   pub ready : IsReadyAs note (bus_going_on now lines)
 
+-- What a request that was attempted has left of the card's sectors, by its answer.
+pub record HasLeft (limits : Lines) (old new : Card) (told : Told) : Type 0 where
+  pub info : Info
+  pub known : IsKnown limits old.made info
+  pub answer : Answer
+  pub tells : TellsAnswer told.number told.after answer
+  pub leaves : Leaves info (request_of told.asked told.before) (holds old) answer (holds new)
+
+-- and one that wasn't
+pub record HasLeftAll (old new : Card) (told : Told) : Type 0 where
+  pub number : is_attempted told.number ≡ false
+  pub memory : told.after ≡ told.before
+  pub narrows : Within (holds new) (holds old)
+
+abbrev pub LeavesBy : Lines → Card → Card → Call → Type 0
+LeavesBy limits old new (Served told) = HasLeftAll old new told ⊎ HasLeft limits old new told
+LeavesBy limits old new call = Unit {0}
+
 -- One call more, from the host before it, with this record, to the host after it.
 pub record GoesOn (call : Call) (old : HostView) (note : CardRecord) (new : HostView) (notes : CardRecord) : Type 0 where
   pub was_true : old.is_kept ≡ true
   pub kept : IsKept old note → IsKept new notes
+  pub left : IsKept old note → LeavesBy new.limits old.card new.card call
   pub served : IsKept old note → (start : Card) (earlier : List Call) → HasServed old.limits start old.card earlier
       → HasServed new.limits start new.card (call ∷ earlier)
 

@@ -5,4 +5,6 @@ pub mod Calls
 pub mod Done
 pub mod History
 pub mod Longs
+pub mod QueueState
+pub mod Queues
 pub mod ReadBack

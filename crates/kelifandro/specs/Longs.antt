@@ -3,7 +3,7 @@ use Rattle.std.specs.Prelude.{◌*◌, ◌-◌, ◌/◌, ◌==◌, ◌^◌, ◌|
 use Rattle.std.specs.Prelude.{length, nat_lt, ℕ, ℤ}
 use Rattle.c_host.specs.declared.given.WayRecord.{WayRecord}
 use Rattle.mmc_card.specs.Sectors.{Sector}
-use Rattle.mmc_direct.specs.declared.asked.Asked.{Asked}
+use Rattle.mmc_requests.specs.declared.asked.Asked.{Asked}
 use Rattle.mmc_requests.specs.Refusal.{sectors_refusal}
 use Rattle.mmc_requests.specs.declared.refused.Refused.{Refused}
 use Rattle.mmc_switch.specs.declared.info.Info.{Info}

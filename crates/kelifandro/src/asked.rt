@@ -1,11 +1,12 @@
 // A request, as C tells of it.
-ghost use Rattle.std.specs.Prelude.{◌≡◌, option_map};
+ghost use Rattle.std.specs.Prelude.{◌≡◌, Some, option_map};
 ghost use Rattle.mmc_record.specs.Numbers.{part_of};
-ghost use Rattle.kelifandro.specs.Asked.{kind_with, named_by};
+ghost use Rattle.kelifandro.specs.Asked.{asked_by, kind_with, named_by};
 
 use mmc_bus::Part;
 use mmc_direct::{Asked, Kind};
 use mmc_record::part_of;
+use mmc_slots::Extent;
 use std::mem::size_of;
 
 // As `struct kelifandro_asked` of C.
@@ -44,6 +45,58 @@ fn kind_with(number: u32) -> Kind
         1 => Kind::Write,
         2 => Kind::Erase,
         _ => Kind::Trim,
+    }
+}
+
+// The number of a partition.
+fn part_number(part: Part) -> u32
+    ensures { part_of result ≡ Some part }
+{
+    match part {
+        Part::User => 0,
+        Part::Boot1 => 1,
+        Part::Boot2 => 2,
+        Part::Gp1 => 3,
+        Part::Gp2 => 4,
+        Part::Gp3 => 5,
+        Part::Gp4 => 6,
+    }
+}
+
+// The number of what is done with the sectors.
+fn kind_number(kind: Kind) -> u32
+    ensures { kind_with result ≡ kind }
+{
+    match kind {
+        Kind::Read => 0,
+        Kind::Write => 1,
+        Kind::Erase => 2,
+        Kind::Trim => 3,
+    }
+}
+
+/// What is asked for with these sectors.
+pub fn asked_by(extent: &Extent) -> Asked
+    ensures { result ≡ asked_by extent.now }
+{
+    Asked {
+        kind: extent.kind,
+        part: extent.part,
+        start: extent.start,
+        count: extent.end.saturating_sub(extent.start),
+    }
+}
+
+/// What is asked for, as C tells of it.
+pub fn record_of(asked: &Asked) -> AskedRecord
+    ensures part { part_of result.part ≡ Some asked.now.part }
+    ensures asked { named_by result asked.now.part ≡ asked.now }
+{
+    AskedRecord {
+        start: asked.start,
+        count: asked.count,
+        part: part_number(asked.part),
+        kind: kind_number(asked.kind),
     }
 }
 

@@ -19,13 +19,13 @@ use std::marker::{Model, PhantomData};
 /// A card, what C keeps of it between two calls, and the calls so far.
 #[derive(Drop)]
 pub struct Card<S: HasStory + HasRegisterStory> {
-    way: WayRecord,
-    card: CardRecord,
-    healed: Healed,
+    pub(crate) way: WayRecord,
+    pub(crate) card: CardRecord,
+    pub(crate) healed: Healed,
     // what its host did
-    did: Did,
-    calls: ghost_diary::Diary<Called>,
-    of: PhantomData<S>,
+    pub(crate) did: Did,
+    pub(crate) calls: ghost_diary::Diary<Called>,
+    pub(crate) of: PhantomData<S>,
 }
 
 impl<S: HasStory + HasRegisterStory> Model for Card<S> {

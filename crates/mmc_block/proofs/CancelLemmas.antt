@@ -74,7 +74,7 @@ none_waits t (e ∷ es) none (inr has) = none_waits t es (none_here t e es (t ==
 
 -- The fields after one has left.
 
-in_order-without : (low : ℕ) (bs zs : List Waiting) (w : Waiting) (next : ℕ) → AreInOrder low (bs ++ w ∷ zs) next
+pub in_order-without : (low : ℕ) (bs zs : List Waiting) (w : Waiting) (next : ℕ) → AreInOrder low (bs ++ w ∷ zs) next
     → AreInOrder low (bs ++ zs) next
 in_order-without low [] zs w next h = let l = h.0 in in_order-lower low (w.ticket + 1) zs next (omega (arith, l)) h.1
 in_order-without low (b ∷ bs) zs w next h = (h.0, in_order-without (b.ticket + 1) bs zs w next h.1)
@@ -84,11 +84,11 @@ passes-without : (v : Waiting) (bs zs : List Waiting) (w : Waiting) → PassesNo
 passes-without v [] zs w h = h.1
 passes-without v (b ∷ bs) zs w h = (h.0, passes-without v bs zs w h.1)
 
-pass-without : (vs bs zs : List Waiting) (w : Waiting) → PassNone vs (bs ++ w ∷ zs) → PassNone vs (bs ++ zs)
+pub pass-without : (vs bs zs : List Waiting) (w : Waiting) → PassNone vs (bs ++ w ∷ zs) → PassNone vs (bs ++ zs)
 pass-without [] bs zs w h = tt
 pass-without (v ∷ vs) bs zs w h = (passes-without v bs zs w h.0, pass-without vs bs zs w h.1)
 
-servable-without : (info : Info) (bs zs : List Entry) (e : Entry) → AreServable info (bs ++ e ∷ zs)
+pub servable-without : (info : Info) (bs zs : List Entry) (e : Entry) → AreServable info (bs ++ e ∷ zs)
     → AreServable info (bs ++ zs)
 servable-without info [] zs e h = h.1
 servable-without info (b ∷ bs) zs e h = (h.0, servable-without info bs zs e h.1)

@@ -12,7 +12,7 @@ use Rattle.mmc_queue.specs.declared.request.Request.{Request}
 use Rattle.mmc_switch.specs.declared.info.Info.{Info}
 use Rattle.mmc_block.specs.Alone.{idle}
 use Rattle.mmc_block.specs.Changes.{change_of}
-use Rattle.mmc_block.specs.ClientLaws.{ClientsSee, ClientsSeeAlone, NoneIsLost, RefusingStep, accepted_in, ended_in, event_of, events}
+use Rattle.mmc_block.specs.ClientLaws.{ClientsSee, ClientsSeeAlone, ClientsSeeEach, NoneIsLost, RefusingStep, accepted_in, ended_in, event_of, events, seen_as}
 use Rattle.mmc_block.specs.ClientLaws.{replies, reply_of}
 use Rattle.mmc_block.specs.Clients.{AnswerMeans, AreSteps, ClientMachine, ClientStep, GetsAnswer, IsWithout, Submits, Told}
 use Rattle.mmc_block.specs.Clients.{at_rest}
@@ -196,7 +196,7 @@ means info request others old decided new (Failed cause) d a =
     λ p s v h. within p s v (same_within new _ a p s v h)
 
 -- some of these fail, and all of these, from where a sector may hold more
-failed_within : (info : Info) (zs xs ys : List Waiting) (new old : Sets) → IsMerged zs xs ys → Within new old
+pub failed_within : (info : Info) (zs xs ys : List Waiting) (new old : Sets) → IsMerged zs xs ys → Within new old
     → Within (all_failed info xs new) (all_failed info zs old)
 failed_within info [] xs ys new old m h = subst (λ ws. Within (all_failed info ws new) old) (sym m.0) h
 failed_within info (z ∷ zs) xs ys new old (inl m) h =
@@ -212,14 +212,11 @@ failed_within info (z ∷ zs) xs ys new old (inr m) h =
 abbrev pub seen_by : Sets → ℕ → List Waiting → ClientMachine
 seen_by sets next zs = record { sets = sets; outstanding = zs; next = next }
 
-abbrev pub seen_of : Machine → List Waiting → ClientMachine
-seen_of machine zs = seen_by machine.sets machine.next zs
-
 -- these steps lead from one to the other, as clients see them
 pub record Sees (Steps : ClientMachine → ClientMachine → Type 0) (old : Machine) (zs : List Waiting) (new : Machine) : Type 0 where
   pub left : List Waiting
   pub merged : IsMerged left new.in_service new.waits
-  pub steps : Steps (seen_of old zs) (seen_of new left)
+  pub steps : Steps (seen_as old zs) (seen_as new left)
 
 module _ (info : Info) where
   answer_seen : (old : Machine) (zs : List Waiting) (c : Completion) (new : Machine) → IsMerged zs old.in_service old.waits
@@ -252,7 +249,7 @@ module _ (info : Info) where
   answers_seen (c ∷ cs) old zs new m (mid, first, rest) =
       let one = answer_seen old zs c mid m first in
       let more = answers_seen cs mid one.left new one.merged rest in
-      record { left = more.left; merged = more.merged; steps = (seen_of mid one.left, one.steps, more.steps) }
+      record { left = more.left; merged = more.merged; steps = (seen_as mid one.left, one.steps, more.steps) }
 
   start_seen : (old started : Machine) (zs : List Waiting) → IsMerged zs old.in_service old.waits → StartsIfIdle old started
       → IsMerged zs started.in_service started.waits × (started.sets ≡ old.sets) × (started.next ≡ old.next)
@@ -270,7 +267,7 @@ module _ (info : Info) where
     ap (λ (n : Machine). n.next) same.0,
   )
 
-  seen_same : (a b : Machine) (zs : List Waiting) → a.sets ≡ b.sets → a.next ≡ b.next → seen_of a zs ≡ seen_of b zs
+  seen_same : (a b : Machine) (zs : List Waiting) → a.sets ≡ b.sets → a.next ≡ b.next → seen_as a zs ≡ seen_as b zs
   seen_same a b zs sets next = ap (λ s. seen_by s a.next zs) sets ∙ ap (λ n. seen_by b.sets n zs) next
 
   turn_seen : (old : Machine) (zs : List Waiting) (cs : List Completion) (new : Machine) → IsMerged zs old.in_service old.waits
@@ -281,7 +278,7 @@ module _ (info : Info) where
       record {
         left = done.left;
         merged = done.merged;
-        steps = subst (λ s. AreSteps (GetsAnswer info) s cs (seen_of new done.left)) (seen_same t.started old zs begun.1 begun.2) done.steps;
+        steps = subst (λ s. AreSteps (GetsAnswer info) s cs (seen_as new done.left)) (seen_same t.started old zs begun.1 begun.2) done.steps;
       }
 
   -- so many have no answer
@@ -305,7 +302,7 @@ module _ (info : Info) where
   Seen old zs call new = Sees (λ s t. RefusingStep info s call t) old zs new
 
   same_seen : (old : Machine) (zs : List Waiting) (call : Told) (new : Machine) → IsMerged zs old.in_service old.waits → new ≡ old
-      → RefusingStep info (seen_of old zs) call (seen_of old zs) → Seen old zs call new
+      → RefusingStep info (seen_as old zs) call (seen_as old zs) → Seen old zs call new
   same_seen old zs call new m same step =
       subst (Seen old zs call) (sym same) (record { left = zs; merged = m; steps = step })
 
@@ -360,7 +357,7 @@ module _ (info : Info) where
   run_seen (call ∷ calls) old zs new m (mid, first, rest) =
       let one = step_seen old zs call mid m first in
       let more = run_seen calls mid one.left new one.merged rest in
-      record { left = more.left; merged = more.merged; steps = (seen_of mid one.left, one.steps, more.steps) }
+      record { left = more.left; merged = more.merged; steps = (seen_as mid one.left, one.steps, more.steps) }
 
   -- which refusal comes first apart
   steps_alone : (calls : List Told) (old new : ClientMachine) → AreSteps (RefusingStep info) old calls new
@@ -372,8 +369,8 @@ pub clients_see : ClientsSee
 clients_see info start calls machine run =
     let all = run_seen info calls (opened start) [] machine (refl, refl) run in
     record {
-      seen = seen_of machine all.left;
-      executed = steps_alone info calls (at_rest start 0) (seen_of machine all.left) all.steps;
+      seen = seen_as machine all.left;
+      executed = steps_alone info calls (at_rest start 0) (seen_as machine all.left) all.steps;
       refusing = all.steps;
       sets = refl;
       outstanding = all.merged;
@@ -382,15 +379,18 @@ clients_see info start calls machine run =
           (within_same machine.sets);
     }
 
+pub clients_see_each : ClientsSeeEach
+clients_see_each info old zs call new m step = let seen = step_seen info old zs call new m step in (seen.left, seen.merged, seen.steps.0)
+
 pub clients_see_alone : ClientsSeeAlone
 clients_see_alone info sets left next request answer served =
     let taken = accept_seen info (idle sets next) [] 0 request next served.accepted (refl, refl) served.accepts in
     let cs : List Completion = record { ticket = next; client = 0; answer = answer } ∷ [] in
     let turned = turn_seen info served.accepted taken.left cs (idle left (next + 1)) taken.merged served.turns in
     let none = merged_none turned.left [] turned.merged in (
-      seen_of served.accepted taken.left,
+      seen_as served.accepted taken.left,
       taken.steps,
-      (seen_of (idle left (next + 1)) turned.left, turned.steps, ap (λ ws. seen_by left (next + 1) ws) (sym none)),
+      (seen_as (idle left (next + 1)) turned.left, turned.steps, ap (λ ws. seen_by left (next + 1) ws) (sym none)),
     )
 
 -- No request is lost.

@@ -56,7 +56,7 @@ one_answer sets ticket client (Write part start count b) bytes room is = refl
 one_answer sets ticket client (Erase part start count) bytes room is = refl
 one_answer sets ticket client (Trim part start count) bytes room is = refl
 
-all_answers : (info : Info) (sets : Sets) (es : List Entry) → AreServable info es → HoldWhatTheyRead sets es
+pub all_answers : (info : Info) (sets : Sets) (es : List Entry) → AreServable info es → HoldWhatTheyRead sets es
     → AreAnswersOf sets (waits_of es) (map completion_of es)
 all_answers info sets [] able is = refl
 all_answers info sets (e ∷ es) able is = (

@@ -70,12 +70,12 @@ are_below es next h = all_below 0 es next h
 
 -- The fields after it.
 
-in_order-push : (low : ℕ) (ws : List Waiting) (w : Waiting) → AreInOrder low ws w.ticket
+pub in_order-push : (low : ℕ) (ws : List Waiting) (w : Waiting) → AreInOrder low ws w.ticket
     → AreInOrder low (ws ++ w ∷ []) (w.ticket + 1)
 in_order-push low [] w h = (h, omega arith)
 in_order-push low (v ∷ ws) w h = (h.0, in_order-push (v.ticket + 1) ws w h.1)
 
-in_order-next : (low : ℕ) (ws : List Waiting) (next : ℕ) → AreInOrder low ws next → AreInOrder low ws (next + 1)
+pub in_order-next : (low : ℕ) (ws : List Waiting) (next : ℕ) → AreInOrder low ws next → AreInOrder low ws (next + 1)
 in_order-next low [] next h = omega (arith, h)
 in_order-next low (w ∷ ws) next h = (h.0, in_order-next (w.ticket + 1) ws next h.1)
 
@@ -84,7 +84,7 @@ passes-push : (v : Waiting) (ws : List Waiting) (w : Waiting) → v.ticket < w.t
 passes-push v [] w l h = ((λ b. absurd (omega (arith, l, b))), tt)
 passes-push v (x ∷ ws) w l h = (h.0, passes-push v ws w l h.1)
 
-pass-push : (low : ℕ) (vs ws : List Waiting) (w : Waiting) → AreInOrder low vs w.ticket → PassNone vs ws
+pub pass-push : (low : ℕ) (vs ws : List Waiting) (w : Waiting) → AreInOrder low vs w.ticket → PassNone vs ws
     → PassNone vs (ws ++ w ∷ [])
 pass-push low [] ws w o h = tt
 pass-push low (v ∷ vs) ws w o h =

@@ -7,10 +7,10 @@ use Rattle.mmc_switch.specs.declared.info.Info.{Info}
 use Rattle.mmc_block.specs.Alone.{IsServedAlone, idle}
 use Rattle.mmc_block.specs.Clients.{AreSteps, ClientMachine, ClientStep, Told, at_rest}
 use Rattle.mmc_block.specs.Clients.Told.{Answered, Cancelled, Submitted}
-use Rattle.mmc_block.specs.Execution.{Event, IsExecution, Reply, cancelled_reply, submitted_reply}
+use Rattle.mmc_block.specs.Execution.{Event, IsExecution, Reply, Steps, cancelled_reply, submitted_reply}
 use Rattle.mmc_block.specs.Execution.Event.{Cancel, Submit, Turn}
 use Rattle.mmc_block.specs.Execution.Reply.{Answers}
-use Rattle.mmc_block.specs.Machine.{IsAmong, IsMerged, IsTicketOf, Machine, all_failed, opened}
+use Rattle.mmc_block.specs.Machine.{IsAmong, IsMerged, IsTicketOf, Machine, Waiting, all_failed, opened}
 use Rattle.mmc_block.specs.MachineLaws.{accepted_by, ended_by}
 use Rattle.mmc_block.specs.Refusal.{IsFirst, first_refusal}
 use Rattle.mmc_block.specs.declared.completion.Answer.{Answer}
@@ -62,6 +62,18 @@ abbrev pub ClientsSee : Type 0
 ClientsSee =
     (info : Info) (start : Sets) (calls : List Told) (machine : Machine)
     → IsExecution info (opened start) (events calls) (replies calls) machine → HaveSeen info start calls machine
+
+-- the machine as clients see it, for whom these are without an answer
+abbrev pub seen_as : Machine → List Waiting → ClientMachine
+seen_as machine outstanding = record { sets = machine.sets; outstanding = outstanding; next = machine.next }
+
+-- Each step of the machine is one that they see.
+abbrev pub ClientsSeeEach : Type 0
+ClientsSeeEach =
+    (info : Info) (old : Machine) (outstanding : List Waiting) (call : Told) (new : Machine)
+    → IsMerged outstanding old.in_service old.waits → Steps info old (event_of call) (reply_of call) new
+    → (left : List Waiting) × IsMerged left new.in_service new.waits
+    × ClientStep info (seen_as old outstanding) call (seen_as new left)
 
 -- A request that is served on a card at which nothing waits is a submission and a turn with its answer.
 abbrev pub ClientsSeeAlone : Type 0

@@ -10,7 +10,7 @@ ghost use Rattle.mmc_block.specs.Answers.{any_failed, failures, is_failed};
 ghost use Rattle.mmc_block.specs.Machine.{Completes, Decides, Machine, Turns};
 ghost use Rattle.mmc_block.specs.MachineLaws.{EachOnce, KeepsValues};
 ghost use Rattle.mmc_block.specs.Changes.{change_of};
-ghost use Rattle.mmc_block.specs.ClientLaws.{ClientsSee, ClientsSeeAlone, NoneIsLost};
+ghost use Rattle.mmc_block.specs.ClientLaws.{ClientsSee, ClientsSeeAlone, ClientsSeeEach, NoneIsLost};
 ghost use Rattle.mmc_queue.specs.Group.{IsJoined};
 ghost use Rattle.mmc_queue.specs.declared.group.Group.{Group};
 ghost use Rattle.mmc_block.specs.Entries.{waits_of};
@@ -19,6 +19,7 @@ ghost use Rattle.mmc_block.specs.Service.{change_of_group};
 ghost use Rattle.mmc_block.specs.Execution.{Counted, IsCountedExecution, Event, Reply, IsExecution};
 ghost use Rattle.mmc_block.specs.ExecutionLaws.{ExecutionLaws};
 ghost use Rattle.mmc_block.specs.InOrder.{AreDecided, EndsInOrder, IsInOrder, MayHold, answers, history};
+ghost use Rattle.mmc_block.specs.Together.{AnswersTogether, EndsTogether, FailsAlone, FailsTogether, StartsTogether};
 
 use mmc_bus::card_laws;
 use mmc_queue::laws::{
@@ -96,10 +97,29 @@ pub fn a_request_alone_is_a_submission_and_a_turn()
     ensures { ServesAlone }
 {}
 
+/// Requests that are served together by one change of the card, in one go: a start, and a turn that answers them once it has carried the
+/// change out. Where it has failed, what it holds is what failed requests may leave, and one that is alone is answered so.
+pub fn a_group_served_at_once_is_a_start_and_a_turn()
+    ensures starts { StartsTogether }
+    ensures answers { AnswersTogether }
+    ensures ends { EndsTogether }
+    ensures fails { FailsTogether }
+    ensures fails_alone { FailsAlone }
+{
+    a_group_is_one_extent();
+    a_group_lends_each_sector_of_its_extent();
+    a_group_lends_the_blocks_of_its_members();
+}
+
 /// What clients see of an execution of the sector machine, from the opening on, is an execution of a machine that knows no groups, with
 /// the same sectors, whose requests without an answer are those that wait and those in service.
 pub fn clients_see_no_groups()
     ensures { ClientsSee }
+{}
+
+/// Each step of the sector machine is one that clients see.
+pub fn clients_see_each_step()
+    ensures { ClientsSeeEach }
 {}
 
 /// The same of a request that is served on a card at which nothing waits: clients see a submission and a turn with its answer.

@@ -7,7 +7,7 @@ use Rattle.mmc_switch.specs.declared.info.Info.{Info}
 use Rattle.mmc_requests.specs.declared.kind.Kind.{Kind}
 use Rattle.mmc_requests.specs.declared.kind.Kind.TheVariants.{Erase, Read, Trim, Write}
 use Rattle.mmc_direct.specs.Refusal.{refusal, refusal_of}
-use Rattle.mmc_direct.specs.declared.asked.Asked.{Asked}
+use Rattle.mmc_requests.specs.declared.asked.Asked.{Asked}
 
 served_of : (kind : Kind) (now info : Info) (part : Part) (start count : ℕ) → lasting now ≡ lasting info
     → refusal kind info part start count ≡ None → refusal kind now part start count ≡ None

@@ -1,7 +1,7 @@
 -- What a request asks for, and how many exchanges a run of it takes at most.
 use Rattle.std.specs.Prelude.{◌*◌, ◌+◌, if◌then◌else◌, ℕ}
 use Rattle.mmc_card.specs.declared.part.Part.{Part}
-use Rattle.mmc_direct.specs.declared.asked.Asked.{Asked}
+use Rattle.mmc_requests.specs.declared.asked.Asked.{Asked}
 use Rattle.mmc_erase.specs.declared.turns.TheConstants.{EXCHANGES_OF_AN_ERASE}
 use Rattle.mmc_requests.specs.Kinds.{moves_blocks}
 use Rattle.mmc_requests.specs.declared.kind.Kind.{Kind}

@@ -14,7 +14,7 @@ use Rattle.mmc_erase.specs.declared.turns.TheConstants.{EXCHANGES_OF_AN_ERASE}
 use Rattle.mmc_requests.specs.Changes.{TakesEffect}
 use Rattle.mmc_direct.specs.Asked.{exchanges_of_run}
 use Rattle.mmc_direct.specs.Served.{IsCausedIn}
-use Rattle.mmc_direct.specs.declared.asked.Asked.{Asked}
+use Rattle.mmc_requests.specs.declared.asked.Asked.{Asked}
 use Rattle.mmc_switch.specs.Stands.{StandsIn, info_of, stands_of}
 use Rattle.mmc_direct.specs.declared.attempts.TheConstants.{EXCHANGES_BESIDE_A_RUN}
 use Rattle.mmc_switch.specs.declared.stands.Stands.{Stands}

@@ -6,7 +6,7 @@ use Rattle.mmc_transfer.specs.declared.job.TheConstants.{MAX_BLOCKS}
 use Rattle.mmc_requests.specs.Refusal.{change_refusal, first_of, sectors_refusal}
 use Rattle.mmc_requests.specs.declared.kind.Kind.{Kind}
 use Rattle.mmc_requests.specs.declared.refused.Refused.{Refused}
-use Rattle.mmc_direct.specs.declared.asked.Asked.{Asked}
+use Rattle.mmc_requests.specs.declared.asked.Asked.{Asked}
 
 -- the first reason to refuse a request for so many sectors, from this one on, of which a run moves so many blocks at most
 abbrev pub refusal : Kind → Info → Part → ℕ → ℕ → Option Refused

@@ -5,11 +5,10 @@ ghost use Rattle.mmc_requests.specs.Changes.{erased_at};
 ghost use Rattle.mmc_requests.specs.Kinds.{kind_of_how};
 ghost use Rattle.mmc_switch.specs.declared.info.Info.{Info};
 
-use crate::asked::Asked;
 use crate::request::Request;
 use mmc_bus::{Bus, Part};
 use mmc_erase::{How, erase_run};
-use mmc_requests::Kind;
+use mmc_requests::{Asked, Kind};
 use mmc_switch::{Broken, Session};
 
 /// An erase or a trim of so many sectors, from this one of a partition on.

@@ -4,7 +4,6 @@
 //! is refused tells the host nothing.
 #![tactic(auto)]
 
-mod asked;
 mod attempts;
 mod counting;
 mod erasing;
@@ -22,13 +21,12 @@ mod serving;
 mod whole;
 mod writing;
 
-pub use asked::Asked;
 pub use attempts::EXCHANGES_BESIDE_A_RUN;
 pub use erasing::{Erasing, action_of};
 pub use going_on::go_on;
 pub use mmc_erase::How;
 pub use mmc_recovery::Healed;
-pub use mmc_requests::{ATTEMPTS, Kind, Kind as Action, Refused};
+pub use mmc_requests::{ATTEMPTS, Asked, Kind, Kind as Action, Refused};
 pub use mmc_switch::Stands;
 pub use noting::{noted, stands_by};
 pub use opening::open;

@@ -6,10 +6,9 @@ ghost use Rattle.mmc_direct.specs.Asked.{asked_at};
 ghost use Rattle.mmc_requests.specs.Changes.{written_at};
 ghost use Rattle.mmc_requests.specs.declared.kind.Kind.TheVariants.{Read};
 
-use crate::asked::Asked;
 use crate::request::Request;
 use mmc_bus::{BlocksMut, Bus, Part};
-use mmc_requests::Kind;
+use mmc_requests::{Asked, Kind};
 use mmc_switch::{Broken, Session};
 use mmc_transfer::read_run;
 

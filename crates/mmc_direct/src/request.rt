@@ -6,14 +6,14 @@ ghost use Rattle.mmc_card.specs.Sectors.{Change, Sets};
 ghost use Rattle.mmc_direct.specs.Asked.{exchanges_of_run};
 ghost use Rattle.mmc_direct.specs.Refusal.{refusal_of};
 ghost use Rattle.mmc_direct.specs.Runs.{HasMade};
-ghost use Rattle.mmc_direct.specs.declared.asked.Asked.{Asked};
+ghost use Rattle.mmc_requests.specs.declared.asked.Asked.{Asked};
 ghost use Rattle.mmc_switch.specs.Info.{lasting};
 ghost use Rattle.mmc_switch.specs.Place.{IsReady};
 ghost use Rattle.mmc_switch.specs.UnderWay.{IsSameSession};
 ghost use Rattle.mmc_switch.specs.declared.info.Info.{Info};
 
-use crate::asked::Asked;
 use mmc_bus::Bus;
+use mmc_requests::Asked;
 use mmc_switch::{Broken, Session};
 
 /// A request of one client, as it is served: what it asks for, and how a run of it is made. Where it moves blocks it has them.

@@ -4,10 +4,9 @@ ghost use Rattle.mmc_direct.specs.Asked.{asked_at};
 ghost use Rattle.mmc_requests.specs.Changes.{written_at};
 ghost use Rattle.mmc_requests.specs.declared.kind.Kind.TheVariants.{Write};
 
-use crate::asked::Asked;
 use crate::request::Request;
 use mmc_bus::{Blocks, Bus, Part};
-use mmc_requests::Kind;
+use mmc_requests::{Asked, Kind};
 use mmc_switch::{Broken, Session};
 use mmc_transfer::write_run;
 

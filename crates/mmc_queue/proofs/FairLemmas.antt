@@ -11,6 +11,7 @@ use Rattle.mmc_queue.specs.Waiting.{AreSound, Ascend, IsSound, Takes}
 use Rattle.mmc_queue.specs.declared.entry.Entry.{Entry}
 use Rattle.mmc_queue.specs.declared.request.Request.{Request}
 use Rattle.mmc_queue.specs.declared.extent.Extent.{Extent}
+use Rattle.mmc_requests.specs.declared.limits.TheConstants.{MAX_COUNT}
 use Rattle.mmc_queue.proofs.FindLemmas.{fits_parts}
 use Rattle.mmc_queue.proofs.GrowLemmas.{widened_members}
 use Rattle.mmc_queue.proofs.MapLemmas.{sound_one, sound_without}
@@ -185,11 +186,13 @@ forward extent r new (inl h) up =
 forward extent r new (inr h) up =
     let s = ap (λ (x : Extent). x.start) h.0 in let e = ap (λ (x : Extent). x.end) h.0 in let k = h.1 in omega (arith, s, e, k, up)
 
-short_by : (extent : Extent) (r : Request) (new : Extent) → Side extent r new → extent.end + count_of r ≤ extent.start + 1024 → new.end ≤ new.start + 1024
-short_by extent r new (inl h) room =
-    let s = ap (λ (x : Extent). x.start) h.0 in let e = ap (λ (x : Extent). x.end) h.0 in let k = h.1 in omega (arith, s, e, k, room)
-short_by extent r new (inr h) room =
-    let s = ap (λ (x : Extent). x.start) h.0 in let e = ap (λ (x : Extent). x.end) h.0 in let k = h.1 in omega (arith, s, e, k, room)
+short_by : (most : ℕ) (extent : Extent) (r : Request) (new : Extent) → most ≤ MAX_COUNT → Side extent r new
+    → extent.end + count_of r ≤ extent.start + most
+    → new.end ≤ new.start + MAX_COUNT
+short_by most extent r new limit (inl h) room =
+    let s = ap (λ (x : Extent). x.start) h.0 in let e = ap (λ (x : Extent). x.end) h.0 in let k = h.1 in omega (arith, s, e, k, room, limit)
+short_by most extent r new limit (inr h) room =
+    let s = ap (λ (x : Extent). x.start) h.0 in let e = ap (λ (x : Extent). x.end) h.0 in let k = h.1 in omega (arith, s, e, k, room, limit)
 
 covers : (extent : Extent) (r : Request) (new : Extent) (s : ℕ) → Side extent r new → extent.start ≤ extent.end
     → (has_sector r s || (nat_le extent.start s && nat_lt s extent.end)) ≡ (nat_le new.start s && nat_lt s new.end)
@@ -273,19 +276,20 @@ at_most a b h = grind (arith, nat_tests)
 less_than : (a b : ℕ) → nat_lt a b ≡ true → a < b
 less_than a b h = grind (arith, nat_tests)
 
-step : (waits members : List Entry) (extent : Extent) (left : List Entry) (e : Entry) (rest : List Entry) → Ascend 0 waits
-    → IsFair waits members extent left × (extent.start ≤ extent.end) × AreSound left → Joins extent left e rest
+step : (most : ℕ) (waits members : List Entry) (extent : Extent) (left : List Entry) (e : Entry) (rest : List Entry)
+    → most ≤ MAX_COUNT → Ascend 0 waits
+    → IsFair waits members extent left × (extent.start ≤ extent.end) × AreSound left → Joins most extent left e rest
     → IsFair waits (with_member members e) (widened extent e.request) rest
     × ((widened extent e.request).start ≤ (widened extent e.request).end) × AreSound rest
-step waits members extent left e rest up old j =
+step most waits members extent left e rest limit up old j =
     let f = old.0 in
     let g = f.joined in
     let r = e.request in
-    let may = and_parts (fits extent r) (passes_none e left) j.may in
-    let fit = fits_parts extent r may.0 in
+    let may = and_parts (fits most extent r) (passes_none e left) j.may in
+    let fit = fits_parts most extent r may.0 in
     let at = side extent r fit.beside in
     let new = widened extent r in
-    let room = and_parts (nat_lt extent.members 16) (nat_le (extent.end + count_of r) (extent.start + 1024)) fit.room in
+    let room = and_parts (nat_lt extent.members 16) (nat_le (extent.end + count_of r) (extent.start + most)) fit.room in
     let t = j.leaves in
     let later_up : Ascend (f.oldest.ticket + 1) f.later = (subst (Ascend 0) f.waits_are up).1 in
     let above = left_above (f.oldest.ticket + 1) f.later f.others left t.0 e t.1 later_up f.parts t.2 in
@@ -313,7 +317,7 @@ step waits members extent left e rest up old j =
           counted = omega (arith, long, more, counted);
           some = omega (arith, long);
           few = omega (arith, long, few, counted);
-          short = λ m. short_by extent r new at (at_most (extent.end + count_of r) (extent.start + 1024) room.1);
+          short = λ m. short_by most extent r new limit at (at_most (extent.end + count_of r) (extent.start + most) room.1);
           alone = λ no. absurd (true≢false (sym fit.merges ∙ (ap can_merge (sym kind) ∙ no)));
           sound = sound_with members e (sound_one t.0 e t.1 sounds) g.sound;
         };
@@ -353,10 +357,10 @@ one_joined e one = record {
   sound = (one, tt);
 }
 
-pub fair : (waits members : List Entry) (extent : Extent) (left : List Entry) → Ascend 0 waits → AreSound waits
-    → Grows waits members extent left
+pub fair : (most : ℕ) (waits members : List Entry) (extent : Extent) (left : List Entry) → most ≤ MAX_COUNT → Ascend 0 waits
+    → AreSound waits → Grows most waits members extent left
     → IsFair waits members extent left × (extent.start ≤ extent.end) × AreSound left
-fair waits members extent left up sound (begins oldest later is) =
+fair most waits members extent left limit up sound (begins oldest later is) =
     let one : IsSound oldest = (subst AreSound is sound).0 in
     let more : Ascend (oldest.ticket + 1) later = (subst (Ascend 0) is up).1 in (
       record {
@@ -372,5 +376,6 @@ fair waits members extent left up sound (begins oldest later is) =
       omega arith,
       (subst AreSound is sound).1,
     )
-fair waits members extent left up sound (joins old_members old_extent old_left e rest g j) =
-    step waits old_members old_extent old_left e rest up (fair waits old_members old_extent old_left up sound g) j
+fair most waits members extent left limit up sound (joins old_members old_extent old_left e rest g j) =
+    step most waits old_members old_extent old_left e rest limit up
+    (fair most waits old_members old_extent old_left limit up sound g) j

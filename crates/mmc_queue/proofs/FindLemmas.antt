@@ -13,6 +13,7 @@ use Rattle.mmc_queue.specs.Search.{BestMay, IsLowest, NotAbove, StandsAlike, may
 use Rattle.mmc_queue.specs.Waiting.{Ascend, at_ticket}
 use Rattle.mmc_queue.specs.declared.entry.Entry.{Entry}
 use Rattle.mmc_requests.specs.declared.kind.Kind.{Kind}
+use Rattle.mmc_requests.specs.declared.limits.TheConstants.{MAX_COUNT}
 use Rattle.mmc_queue.specs.declared.place.Edge.TheVariants.{End, Start}
 use Rattle.mmc_queue.specs.declared.request.Request.{Request}
 use Rattle.mmc_queue.specs.declared.extent.Extent.{Extent}
@@ -25,12 +26,12 @@ pub same_number : (m n : ℕ) → (m == n) ≡ true → m ≡ n
 same_number m n h = grind (arith, nat_tests)
 
 -- The parts of a test.
-pub record Fits (extent : Extent) (r : Request) : Type 0 where
+pub record Fits (most : ℕ) (extent : Extent) (r : Request) : Type 0 where
   pub part_is : part_of r ≡ extent.part
   pub kind_is : kind_of r ≡ extent.kind
   pub merges : can_merge extent.kind ≡ true
   pub beside : (start_of r ≡ extent.end) ⊎ (end_of r ≡ extent.start)
-  pub room : has_room extent r ≡ true
+  pub room : has_room most extent r ≡ true
 
 either : (a b c d : ℕ) → ((a == b) || (c == d)) ≡ true → (a ≡ b) ⊎ (c ≡ d)
 either a b c d h = either_by (a == b) refl h
@@ -39,12 +40,12 @@ either a b c d h = either_by (a == b) refl h
     either_by true is h = inl (same_number a b is)
     either_by false is h = inr (same_number c d h)
 
-pub fits_parts : (extent : Extent) (r : Request) → fits extent r ≡ true → Fits extent r
-fits_parts extent r h =
+pub fits_parts : (most : ℕ) (extent : Extent) (r : Request) → fits most extent r ≡ true → Fits most extent r
+fits_parts most extent r h =
     let alike : Bool = is_alike extent r in
-    let all = and_parts (alike && can_merge extent.kind) (is_beside extent r && has_room extent r) h in
+    let all = and_parts (alike && can_merge extent.kind) (is_beside extent r && has_room most extent r) h in
     let one = and_parts alike (can_merge extent.kind) all.0 in
-    let two = and_parts (is_beside extent r) (has_room extent r) all.1 in
+    let two = and_parts (is_beside extent r) (has_room most extent r) all.1 in
     let three =
     and_parts (part_number (part_of r) == part_number extent.part) (kind_number (kind_of r) == kind_number extent.kind) one.0 in
     record {
@@ -56,36 +57,38 @@ fits_parts extent r h =
     }
 
 -- one that may join stands at an end of the extent
-stands : (extent : Extent) (ws : List Entry) (best : Option ℕ) (e : Entry) → at_ticket e.ticket ws ≡ Some e → may_join extent ws e ≡ true
+stands : (extent : Extent) (ws : List Entry) (best : Option ℕ) (e : Entry) → at_ticket e.ticket ws ≡ Some e
+    → may_join MAX_COUNT extent ws e ≡ true
     → ((t : ℕ) → StandsAlike extent ws Start extent.end t → may_join_at extent ws t ≡ true → NotAbove best t)
     → ((t : ℕ) → StandsAlike extent ws End extent.start t → may_join_at extent ws t ≡ true → NotAbove best t)
     → NotAbove best e.ticket
 stands extent ws best e there may at_end at_start =
-    let f = fits_parts extent e.request (and_parts (fits extent e.request) (passes_none e ws) may).0 in
+    let f = fits_parts MAX_COUNT extent e.request (and_parts (fits MAX_COUNT extent e.request) (passes_none e ws) may).0 in
     let so : may_join_at extent ws e.ticket ≡ true = ap (may_join_if extent ws) there ∙ may in
     elim f.beside [
       | inl is ↦ at_end e.ticket (e, there, rw (f.part_is, f.kind_is, is) refl) so
       | inr is ↦ at_start e.ticket (e, there, rw (f.part_is, f.kind_is, is) refl) so
     ]
 
-none_by : (extent : Extent) (ws : List Entry) (e : Entry) (b : Bool) → may_join extent ws e ≡ b → (may_join extent ws e ≡ true → ⊥) → b ≡ false
+none_by : (extent : Extent) (ws : List Entry) (e : Entry) (b : Bool) → may_join MAX_COUNT extent ws e ≡ b
+    → (may_join MAX_COUNT extent ws e ≡ true → ⊥) → b ≡ false
 none_by extent ws e true is h = absurd (h is)
 none_by extent ws e false is h = refl
 
 none : (extent : Extent) (ws before es : List Entry) → Ascend 0 ws → ws ≡ before ++ es
-    → ((e : Entry) → at_ticket e.ticket ws ≡ Some e → may_join extent ws e ≡ true → ⊥)
-    → NoneMay extent ws es
+    → ((e : Entry) → at_ticket e.ticket ws ≡ Some e → may_join MAX_COUNT extent ws e ≡ true → ⊥)
+    → NoneMay MAX_COUNT extent ws es
 none extent ws before [] up is h = tt
 none extent ws before (e ∷ es) up is h =
     let there : at_ticket e.ticket ws ≡ Some e =
     subst (λ vs. at_ticket e.ticket vs ≡ Some e) (sym is) (at_own_ticket 0 before e es (subst (Ascend 0) is up)) in (
-      none_by extent ws e (may_join extent ws e) refl (h e there),
+      none_by extent ws e (may_join MAX_COUNT extent ws e) refl (h e there),
       none extent ws (before ++ e ∷ []) es up (is ∙ sym (append_assoc before (e ∷ []) es)) h,
     )
 
 lowest : (extent : Extent) (ws before es : List Entry) (t : ℕ) → Ascend 0 ws → ws ≡ before ++ es
-    → ((e : Entry) → at_ticket e.ticket ws ≡ Some e → may_join extent ws e ≡ true → t ≤ e.ticket)
-    → NoneLower extent ws t es
+    → ((e : Entry) → at_ticket e.ticket ws ≡ Some e → may_join MAX_COUNT extent ws e ≡ true → t ≤ e.ticket)
+    → NoneLower MAX_COUNT extent ws t es
 lowest extent ws before [] t up is h = tt
 lowest extent ws before (e ∷ es) t up is h =
     let there : at_ticket e.ticket ws ≡ Some e =
@@ -95,7 +98,7 @@ lowest extent ws before (e ∷ es) t up is h =
     )
 
 is_one : (extent : Extent) (ws : List Entry) (t : ℕ) (o : Option Entry) → at_ticket t ws ≡ o → may_join_if extent ws o ≡ true
-    → NoneLower extent ws t ws
+    → NoneLower MAX_COUNT extent ws t ws
     → IsLowest extent ws t
 is_one extent ws t None is may low = absurd (true≢false (sym may))
 is_one extent ws t (Some e) is may low = record { e = e; there = is; may = may; lowest = low }
@@ -103,7 +106,7 @@ is_one extent ws t (Some e) is may low = record { e = e; there = is; may = may; 
 pub found : (extent : Extent) (ws : List Entry) (best : Option ℕ) → Ascend 0 ws → BestMay extent ws best
     → ((t : ℕ) → StandsAlike extent ws Start extent.end t → may_join_at extent ws t ≡ true → NotAbove best t)
     → ((t : ℕ) → StandsAlike extent ws End extent.start t → may_join_at extent ws t ≡ true → NotAbove best t)
-    → MatchOption best (NoneMay extent ws ws) (λ t. IsLowest extent ws t)
+    → MatchOption best (NoneMay MAX_COUNT extent ws ws) (λ t. IsLowest extent ws t)
 found extent ws None up may at_end at_start =
     none extent ws [] ws up refl (λ e there so. stands extent ws None e there so at_end at_start)
 found extent ws (Some t) up may at_end at_start =

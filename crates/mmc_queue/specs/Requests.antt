@@ -4,6 +4,7 @@ use Rattle.std.specs.Prelude.{◌&&◌, ◌*◌, ◌+◌, ◌<◌, ◌==◌, ◌
 use Rattle.mmc_card.specs.declared.part.Part.{Part}
 use Rattle.mmc_card.specs.Sectors.{part_number}
 use Rattle.mmc_requests.specs.Kinds.{is_read as reads, moves_blocks}
+use Rattle.mmc_requests.specs.declared.asked.Asked.{Asked}
 use Rattle.mmc_requests.specs.declared.kind.Kind.{Kind}
 use Rattle.mmc_requests.specs.declared.kind.Kind.TheVariants as kind
 use Rattle.mmc_queue.specs.declared.request.Request.{Request}
@@ -36,6 +37,10 @@ kind_of (Read part start count) = kind.Read
 kind_of (Write part start count bytes) = kind.Write
 kind_of (Erase part start count) = kind.Erase
 kind_of (Trim part start count) = kind.Trim
+
+-- what it asks for
+abbrev pub asked_of : Request → Asked
+asked_of r = record { kind = kind_of r; part = part_of r; start = start_of r; count = count_of r }
 
 -- the kinds in order
 abbrev pub kind_number : Kind → ℕ

@@ -1,4 +1,4 @@
--- The search for the request that joins a group next.
+-- The search for the request that joins a group next, which may have `MAX_COUNT` sectors.
 use Rattle.std.specs.Prelude.{◌&&◌, ◌≡◌, ◌≤◌, Bool, List, None, Option, Some, false, nat_lt, true, ℕ}
 use Rattle.mmc_queue.specs.Places.{place_of}
 use Rattle.mmc_queue.specs.Rule.{NoneLower, may_join}
@@ -6,11 +6,12 @@ use Rattle.mmc_queue.specs.Waiting.{at_ticket}
 use Rattle.mmc_queue.specs.declared.entry.Entry.{Entry}
 use Rattle.mmc_queue.specs.declared.place.Edge.{Edge}
 use Rattle.mmc_queue.specs.declared.extent.Extent.{Extent}
+use Rattle.mmc_requests.specs.declared.limits.TheConstants.{MAX_COUNT}
 
 -- it waits and may join
 abbrev pub may_join_if : Extent → List Entry → Option Entry → Bool
 may_join_if extent waits None = false
-may_join_if extent waits (Some e) = may_join extent waits e
+may_join_if extent waits (Some e) = may_join MAX_COUNT extent waits e
 
 abbrev pub may_join_at : Extent → List Entry → ℕ → Bool
 may_join_at extent waits ticket = may_join_if extent waits (at_ticket ticket waits)
@@ -43,5 +44,5 @@ StandsAlike extent waits edge sector ticket =
 pub record IsLowest (extent : Extent) (waits : List Entry) (ticket : ℕ) : Type 0 where
   pub e : Entry
   pub there : at_ticket ticket waits ≡ Some e
-  pub may : may_join extent waits e ≡ true
-  pub lowest : NoneLower extent waits ticket waits
+  pub may : may_join MAX_COUNT extent waits e ≡ true
+  pub lowest : NoneLower MAX_COUNT extent waits ticket waits

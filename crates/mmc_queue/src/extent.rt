@@ -1,10 +1,10 @@
 ghost use Rattle.std.specs.Prelude.{◌≡◌, ◌+◌, ◌<◌, ◌≤◌, ◌^◌};
-ghost use Rattle.mmc_queue.specs.Requests.{end_of};
-ghost use Rattle.mmc_queue.specs.Rule.{fits, is_beside, extent_of, widened};
+ghost use Rattle.mmc_queue.specs.Requests.{asked_of};
+ghost use Rattle.mmc_queue.specs.Rule.{extent_of, fits, widened};
+ghost use Rattle.mmc_queue.specs.declared.request.Request.{Request};
 
-use crate::request::Request;
 use mmc_bus::Part;
-use mmc_requests::{Kind, MAX_COUNT};
+use mmc_requests::{Asked, Kind};
 
 /// The most requests of a group.
 pub const MAX_GROUP: usize = 16;
@@ -25,47 +25,48 @@ pub struct Extent {
 }
 
 impl Extent {
-    /// The sectors of one request.
-    pub fn of(request: &Request) -> Extent
-        requires { end_of request.now ≤ 2 ^ 32 }
-        ensures { result ≡ extent_of request.now }
+    /// The sectors of a request that asks for this.
+    pub fn of(asked: &Asked) -> Extent
+        requires { asked.now.start + asked.now.count < 2 ^ 64 }
+        ensures { (request : Request) → asked.now ≡ asked_of request → result ≡ extent_of request }
     {
         Extent {
-            part: request.part(),
-            kind: request.kind(),
-            start: request.start(),
-            end: request.start() + request.count(),
+            part: asked.part,
+            kind: asked.kind,
+            start: asked.start,
+            end: asked.start + asked.count,
             members: 1,
         }
     }
 
-    // Whether a request stands at one of its ends, is of its partition and kind, and keeps the limits with it.
-    pub(crate) fn fits(&self, request: &Request) -> bool
-        ensures { result ≡ fits self.now request.now }
+    /// Whether a request that asks for this stands at one of its ends, is of its partition and kind, and keeps the limits with
+    /// it: `MAX_GROUP` requests, and so many sectors at most.
+    pub fn fits(&self, most: u64, asked: &Asked) -> bool
+        ensures { (request : Request) → asked.now ≡ asked_of request → result ≡ fits most self.now request }
     {
-        let (start, count) = (request.start() as u128, request.count() as u128);
-        let is_alike = request.part() == self.part && request.kind() == self.kind;
+        let (start, count) = (asked.start as u128, asked.count as u128);
+        let is_alike = asked.part == self.part && asked.kind == self.kind;
         let is_beside = start == self.end as u128 || start + count == self.start as u128;
         let has_room = self.members < MAX_GROUP
-            && self.end as u128 + count <= self.start as u128 + MAX_COUNT as u128;
+            && self.end as u128 + count <= self.start as u128 + most as u128;
         is_alike && self.kind.can_merge() && (is_beside && has_room)
     }
 
-    // With a request that stands at one of its ends.
-    pub(crate) fn widened(self, request: &Request) -> Extent
-        requires inside { end_of request.now ≤ 2 ^ 32 }
+    /// With a request that asks for this, and stands at one of its ends.
+    pub fn widened(self, asked: &Asked) -> Extent
+        requires inside { asked.now.start + asked.now.count < 2 ^ 64 }
         requires few { self.members < MAX_GROUP }
-        ensures { result ≡ widened self request.now }
+        ensures { (request : Request) → asked.now ≡ asked_of request → result ≡ widened self request }
     {
-        if request.start() == self.end {
+        if asked.start == self.end {
             Extent {
-                end: request.start() + request.count(),
+                end: asked.start + asked.count,
                 members: self.members + 1,
                 ..self
             }
         } else {
             Extent {
-                start: request.start(),
+                start: asked.start,
                 members: self.members + 1,
                 ..self
             }

@@ -3,18 +3,20 @@ ghost use Rattle.std.specs.Prelude.{◌≡◌, ℕ, MatchOption, true};
 ghost use Rattle.mmc_queue.specs.Rule.{NoneMay, comes_first, passes_none};
 ghost use Rattle.mmc_queue.specs.Search.{BestMay, IsLowest, NotAbove, StandsAlike, is_better, is_lower, may_join_at};
 ghost use Rattle.mmc_queue.specs.Waiting.{Ascend};
+ghost use Rattle.mmc_requests.specs.declared.limits.TheConstants.{MAX_COUNT};
 
 use crate::conflict::conflicts;
 use crate::entry::Entry;
 use crate::extent::Extent;
 use crate::place::{Edge, Place};
 use crate::queue::Queue;
+use mmc_requests::MAX_COUNT;
 
 // Whether the first entry came before the second, and they conflict.
 fn comes_first(v: &Entry, e: &Entry) -> bool
     ensures { result ≡ comes_first v.now e.now }
 {
-    v.ticket < e.ticket && conflicts(&v.request, &e.request)
+    v.ticket < e.ticket && conflicts(&v.request.asked(), &e.request.asked())
 }
 
 // Whether a ticket is below the best one so far.
@@ -45,7 +47,8 @@ impl Queue {
         ensures { result ≡ may_join_at extent.now self.now ticket }
     {
         match self.by_ticket.get(&ticket) {
-            Some(entry) => extent.fits(&entry.request) && self.passes_none(entry),
+            Some(entry) => extent.fits(MAX_COUNT, &entry.request.asked())
+                && self.passes_none(entry),
             None => false,
         }
     }
@@ -88,7 +91,7 @@ impl Queue {
 
     // The lowest ticket of those that may join. Where nothing waits, nothing is looked for.
     pub(crate) fn find(&self, extent: &Extent) -> Option<u64>
-        ensures { MatchOption result (NoneMay extent.now self.now self.now) (λ t. IsLowest extent.now self.now t) }
+        ensures { MatchOption result (NoneMay MAX_COUNT extent.now self.now self.now) (λ t. IsLowest extent.now self.now t) }
     {
         if self.by_ticket.is_empty() {
             return None;

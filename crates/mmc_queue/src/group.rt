@@ -6,6 +6,7 @@ ghost use Rattle.mmc_queue.specs.Rule.{Grows, IsGroup, extent_of, widened, with_
 ghost use Rattle.mmc_queue.specs.Waiting.{IsSound};
 ghost use Rattle.mmc_queue.specs.declared.entry.Entry.{Entry};
 ghost use Rattle.mmc_queue.specs.declared.extent.TheConstants.{MAX_GROUP};
+ghost use Rattle.mmc_requests.specs.declared.limits.TheConstants.{MAX_COUNT};
 
 use crate::entry::Entry;
 use crate::extent::{Extent, MAX_GROUP};
@@ -65,7 +66,7 @@ impl Group {
         ensures extent { self.new.extent ≡ extent_of entry.request }
         ensures joined { IsJoined self.new.members.items self.new.extent }
     {
-        self.extent = Extent::of(&entry.request);
+        self.extent = Extent::of(&entry.request.asked());
         self.members.push(entry);
     }
 
@@ -78,7 +79,7 @@ impl Group {
         ensures extent { self.new.extent ≡ widened self.old.extent entry.request }
         ensures counted { self.new.extent.members ≡ array_vec_len self.new.members }
     {
-        self.extent = self.extent.widened(&entry.request);
+        self.extent = self.extent.widened(&entry.request.asked());
         let index = index_for(&self.members, entry.ticket);
         self.members.insert(index, entry);
     }
@@ -90,8 +91,8 @@ impl Queue {
         requires counted { group.old.extent.members ≡ array_vec_len group.old.members }
         requires some { 0 < group.old.extent.members }
         requires few { group.old.extent.members ≤ MAX_GROUP }
-        ensures { (waits : List Entry) → Grows waits group.old.members.items group.old.extent self.old
-            → IsGroup waits group.new.members.items group.new.extent self.new }
+        ensures { (waits : List Entry) → Grows MAX_COUNT waits group.old.members.items group.old.extent self.old
+            → IsGroup MAX_COUNT waits group.new.members.items group.new.extent self.new }
     {
         for _joined in 0..MAX_GROUP {
             let Some(ticket) = self.find(&group.extent) else {
@@ -112,7 +113,7 @@ impl Queue {
     pub fn next_into(&mut self, group: &mut Group) -> bool
         requires { group.old.members.items ≡ [] }
         ensures fair { result ≡ true → IsFair self.old group.new.members.items group.new.extent self.new }
-        ensures rule { result ≡ true → IsGroup self.old group.new.members.items group.new.extent self.new }
+        ensures rule { result ≡ true → IsGroup MAX_COUNT self.old group.new.members.items group.new.extent self.new }
         ensures none { result ≡ false → (self.old ≡ []) × (self.new ≡ []) × (group.new.members.items ≡ []) }
     {
         let Some(oldest) = self.take_oldest() else {
@@ -126,7 +127,8 @@ impl Queue {
     /// The same as a group of its own, or nothing where nothing waits.
     pub fn next_group(&mut self) -> Option<Group>
         ensures fair { IfSome result (λ g. IsFair self.old g.members.items g.extent self.new) }
-        ensures rule { MatchOption result ((self.old ≡ []) × (self.new ≡ [])) (λ g. IsGroup self.old g.members.items g.extent self.new) }
+        ensures rule { MatchOption result ((self.old ≡ []) × (self.new ≡ []))
+            (λ g. IsGroup MAX_COUNT self.old g.members.items g.extent self.new) }
     {
         let mut group = Group::none(self.alloc);
         if self.next_into(&mut group) {

@@ -1,5 +1,5 @@
 //! Laws about requests that wait. Each function does nothing; its contract is the law, which a caller then knows.
-ghost use Rattle.std.specs.Prelude.{◌+◌, ◌-◌, ◌<◌, ◌≡◌, ◌↔◌, ◌⊎◌, List, []};
+ghost use Rattle.std.specs.Prelude.{◌+◌, ◌-◌, ◌<◌, ◌∷◌, ◌≡◌, ◌≤◌, ◌↔◌, ◌⊎◌, List, []};
 ghost use Rattle.std.specs.Prelude.{false, length, slice_index_or, true, ℕ};
 ghost use Rattle.mmc_bus.specs.Lending.{IsRewritten};
 ghost use Rattle.mmc_card.specs.Sectors.{pieces};
@@ -8,9 +8,12 @@ ghost use Rattle.mmc_queue.specs.declared.group.Group.{Group};
 ghost use Rattle.mmc_requests.specs.declared.kind.Kind.TheVariants.{Read, Write};
 ghost use Rattle.mmc_queue.specs.declared.request.Request.{Request};
 ghost use Rattle.mmc_queue.specs.declared.extent.Extent.{Extent};
-ghost use Rattle.mmc_queue.specs.Group.{IsJoined, IsOneOf, FormExtent};
+ghost use Rattle.mmc_queue.specs.Group.{FormExtent, IsFair, IsJoined, IsOneOf};
 ghost use Rattle.mmc_queue.specs.Lent.{AreLent, blocks_of, with_lent, write_blocks_of};
 ghost use Rattle.mmc_queue.specs.Requests.{ShareSector, bytes_of, conflicts, count_of, is_read, start_of};
+ghost use Rattle.mmc_queue.specs.Rule.{IsGroup, extent_of};
+ghost use Rattle.mmc_queue.specs.Waiting.{AreSound, Ascend, IsSound};
+ghost use Rattle.mmc_requests.specs.declared.limits.TheConstants.{MAX_COUNT};
 
 /// Of two requests that conflict either conflicts with the other.
 pub fn conflict_is_symmetric()
@@ -21,6 +24,17 @@ pub fn conflict_is_symmetric()
 /// conflicts with none.
 pub fn a_conflict_is_a_common_sector()
     ensures { (a b : Request) → (conflicts a b ≡ true) ↔ (ShareSector a b × ((is_read a ≡ false) ⊎ (is_read b ≡ false))) }
+{}
+
+/// A group by the rule is fair, whatever its limit of sectors, up to `MAX_COUNT`.
+pub fn a_group_is_fair()
+    ensures { (most : ℕ) (waits members : List Entry) (extent : Extent) (left : List Entry) → most ≤ MAX_COUNT
+        → Ascend 0 waits → AreSound waits → IsGroup most waits members extent left → IsFair waits members extent left }
+{}
+
+/// A request alone is joined.
+pub fn one_is_joined()
+    ensures { (e : Entry) → IsSound e → IsJoined (e ∷ []) (extent_of e.request) }
 {}
 
 /// Requests that are joined are an extent.

@@ -20,7 +20,7 @@ pub use entry::Entry;
 pub use extent::{Extent, MAX_GROUP};
 pub use group::{Group, Members};
 pub use lent::Writes;
-pub use mmc_requests::{Kind, MAX_COUNT};
+pub use mmc_requests::{Asked, Kind, MAX_COUNT};
 pub use push_fault::PushFault;
 pub use queue::{MAX_WAITING, Queue, Unknown};
 pub use request::Request;

@@ -1,8 +1,8 @@
 ghost use Rattle.std.specs.Prelude.{◌≡◌, ◌*◌};
-ghost use Rattle.mmc_queue.specs.Requests.{count_of, has_its_bytes, is_read, kind_of, part_of, start_of};
+ghost use Rattle.mmc_queue.specs.Requests.{asked_of, count_of, has_its_bytes, is_read, kind_of, part_of, start_of};
 
 use mmc_bus::{Bytes, Part};
-use mmc_requests::Kind;
+use mmc_requests::{Asked, Kind};
 
 /// What a client asks of the device. Starts and counts are sectors of 512 bytes.
 #[derive(Debug, Drop)]
@@ -93,6 +93,18 @@ impl Request {
             | Request::Write { count, .. }
             | Request::Erase { count, .. }
             | Request::Trim { count, .. } => *count,
+        }
+    }
+
+    /// What it asks for.
+    pub fn asked(&self) -> Asked
+        ensures { result ≡ asked_of self.now }
+    {
+        Asked {
+            kind: self.kind(),
+            part: self.part(),
+            start: self.start(),
+            count: self.count(),
         }
     }
 

@@ -1,19 +1,16 @@
 -- Data that the controller moves by itself: until it is over.
-use Rattle.std.proofs.Common.{◌∙◌, ◌≡◌, Bool, None, Option, Some, ap, refl, subst, sym, true, ℕ}
+use Rattle.std.specs.Prelude.{◌||◌}
+use Rattle.std.proofs.Common.{◌≡◌, Bool, None, Option, Some, refl, subst, true, ℕ}
 use Rattle.std.proofs.lemmas.Bool.{false≢true}
-use Rattle.mmc_card.specs.BusView.{BusView}
-use Rattle.mmc_card.specs.declared.exchange.DataIn.{DataIn}
-use Rattle.mmc_frame.specs.Field.{field}
 use Rattle.mmc_host.specs.declared.data.Data.{Data}
-use Rattle.mmc_sdhci.specs.Accesses.{Drops, IsAtRest, Looked, Reads, is_at_rest}
-use Rattle.mmc_sdhci.specs.Accesses.{DataLookedBy}
-use Rattle.mmc_sdhci.specs.Commands.{ResetsData, RestsButMoves, unmoved}
-use Rattle.mmc_sdhci.specs.Controller.{ControllerView, Running, Settled, has_data, moved, seen}
-use Rattle.mmc_sdhci.specs.DataLooks.{came, cleared}
-use Rattle.mmc_sdhci.specs.DmaLooks.{MovingLook, MovingLooked, SomeMoved, ends, fails, waits}
-use Rattle.mmc_sdhci.specs.Finishing.{Finished, Finishes, IsMoving}
-use Rattle.mmc_sdhci.specs.Moving.{IsClear}
-use Rattle.mmc_sdhci.proofs.Blocks.{all_cleared, clear_at_rest, rests_cleared, zero-is-not-one}
+use Rattle.mmc_sdhci.specs.Accesses.{DataLookedBy, Looked, Reads}
+use Rattle.mmc_sdhci.specs.Commands.{RestsButMoves, unmoved}
+use Rattle.mmc_sdhci.specs.Controller.{ControllerView, Running, Settled, has_data}
+use Rattle.mmc_sdhci.specs.DataLooks.{is_complete}
+use Rattle.mmc_sdhci.specs.DmaLooks.{MovingLook, MovingLooked, ends, fails, waits}
+use Rattle.mmc_sdhci.specs.Finishing.{IsMoving, WatchesMoving}
+use Rattle.mmc_sdhci.specs.Moving.{is_error}
+use Rattle.mmc_sdhci.proofs.Blocks.{clear_at_rest}
 
 -- nothing but what was looked at has changed
 abbrev pub OnlySeen : ControllerView → ControllerView → Type 0
@@ -51,38 +48,9 @@ looked v0 v1 v2 bits rests moving only reads kept =
     subst (λ (b : Bool). DataLookedBy b base bits v2) m.0 idle in
     (o.0, from_first v0 v2 v1.status bits (is_look v0.transfer base v2 bits m.1 by))
 
--- A block failed, and the data line is reset.
-failed_by : (v0 v2 v3 : ControllerView) (bits : ℕ) → IsClear (unmoved v0) → field 15 15 bits ≡ 1 → MovingLook v0 bits v2
-    → Drops v2 v3 → Finished v0 (Some (came bits)) v3 × (is_at_rest v3 ≡ true)
-failed_by v0 v2 v3 bits clear error (waits zero none same) drops = absurd (zero-is-not-one _ zero error)
-failed_by v0 v2 v3 bits clear error (ends now zero done moved same) drops = absurd (zero-is-not-one _ zero error)
-failed_by v0 v2 v3 bits clear error (fails is some same) drops =
-    let d : v3 ≡ cleared v2 = all_cleared v2 v3 (ap (λ (v : ControllerView). v.transfer) same) drops in (
-      record {
-        ended = (
-          ap (λ (v : ControllerView). v.dma.lent) d ∙ ap (λ (v : ControllerView). v.dma.lent) same,
-          subst (λ (b : BusView). SomeMoved v0.transfer v0.dma.lent (came bits) (seen v0) b)
-              (sym (ap (λ (v : ControllerView). seen v) d)) some,
-        );
-        transfer = ap (λ (v : ControllerView). v.transfer) d;
-        settings = ap (λ (v : ControllerView). v.settings) d ∙ ap (λ (v : ControllerView). v.settings) same;
-        built = ap (λ (v : ControllerView). v.built) d ∙ ap (λ (v : ControllerView). v.built) same;
-      },
-      rests_cleared v2 v3 (ap (λ (v : ControllerView). v.running) same ∙ clear.running)
-          (ap (λ (v : ControllerView). v.is_stuck) same ∙ clear.stuck)
-          (ap (λ (v : ControllerView). v.settings.stabilizing) same ∙ clear.stabilizing)
-          (ap (λ (v : ControllerView). v.settings.starting) same ∙ clear.starting) d,
-    )
-
-pub one_failed : (v0 v1 v2 v3 : ControllerView) (bits : ℕ) (got : DataIn) → RestsButMoves v0 → IsMoving v0
-    → Settled v0 (OnlySeen v0 v1) v1 → Reads v1 0x30 bits v2 → field 15 15 bits ≡ 1 → got ≡ came bits → ResetsData v2 v3
-    → Finishes v0 (Some got) v3 × IsAtRest v3
-one_failed v0 v1 v2 v3 bits got rests moving only reads error is resets =
-    let all : Settled v0 (Finished v0 (Some (came bits)) v3 × (is_at_rest v3 ≡ true)) v3 =
-    λ kept.
-    let r = resets kept in
-    let l = looked v0 v1 v2 bits rests moving only reads r.0 in
-    (l.0, failed_by v0 v2 v3 bits (clear_at_rest (unmoved v0) (rests l.0)).0 error l.1 r.1) in (
-      subst (λ (d : DataIn). Finishes v0 (Some d) v3) (sym is) (λ kept. let a = all kept in (a.0, a.1.0)),
-      λ kept. (all kept).1.1,
-    )
+-- A look that found all moved, or an error.
+pub watch_moving_over : (v0 v1 v2 : ControllerView) (bits : ℕ) → RestsButMoves v0 → IsMoving v0
+    → Settled v0 (OnlySeen v0 v1) v1 → Reads v1 0x30 bits v2 → (is_error bits || is_complete bits) ≡ true
+    → WatchesMoving v0 (Some bits) v2
+watch_moving_over v0 v1 v2 bits rests moving only reads over kept =
+    let l = looked v0 v1 v2 bits rests moving only reads kept in (l.0, (over, l.1))

@@ -14,6 +14,7 @@ use Rattle.mmc_host.specs.Hosts.{HostView, Where}
 use Rattle.mmc_host.specs.declared.data.Data.{Data}
 use Rattle.mmc_host.specs.declared.told.HostState.{HostState}
 use Rattle.mmc_host.specs.declared.told.Ios.{Ios}
+use Rattle.mmc_sdhci.specs.Beside.{Beside, is_inserted}
 use Rattle.mmc_sdhci.specs.Controller.{ControllerView, IsAtMost, Settled, base_clock, clock_runs, is_set, is_settled, is_still, lines_in}
 use Rattle.mmc_sdhci.specs.Accesses.{is_at_rest, restarted, starting_anew}
 use Rattle.mmc_sdhci.specs.Lent.{nothing_lent}
@@ -139,14 +140,15 @@ IsStarted view =
 abbrev pub Restarts : ControllerView → ControllerView → Type 0
 Restarts old new = Settled old (new ≡ started old) new
 
--- Why a controller isn't ready: it has no 3.3 V (bit 24 of Capabilities), it doesn't tell its base clock, or, where it has both, its
--- slot is empty, of which nothing is said here.
-abbrev pub IsUnready : StartFault → ControllerView → Type 0
-IsUnready NoVoltage view = WhereKept view (field 24 24 view.built.capabilities ≡ 0)
-IsUnready NoBaseClock view = WhereKept view (base_clock view.built.capabilities view.built.version ≡ 0)
-IsUnready NoCard view =
+-- Why a controller isn't ready: it has no 3.3 V (bit 24 of Capabilities), it doesn't tell its base clock, or, where it has both,
+-- Present State showed no card in the slot when it was read last.
+abbrev pub IsUnready : StartFault → ControllerView → Beside → Type 0
+IsUnready NoVoltage view beside = WhereKept view (field 24 24 view.built.capabilities ≡ 0)
+IsUnready NoBaseClock view beside = WhereKept view (base_clock view.built.capabilities view.built.version ≡ 0)
+IsUnready NoCard view beside =
     WhereKept view
-    ((field 24 24 view.built.capabilities ≡ 1) × (base_clock view.built.capabilities view.built.version ≡ 0 → ⊥))
+    ((field 24 24 view.built.capabilities ≡ 1)
+    × ((base_clock view.built.capabilities view.built.version ≡ 0 → ⊥) × (is_inserted beside.present ≡ false)))
 
 -- the card is as before, and so is what is built in
 pub record IsSameCard (old new : ControllerView) : Type 0 where

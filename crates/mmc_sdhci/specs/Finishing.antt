@@ -1,5 +1,5 @@
 -- What the driver's functions leave, where the controller moves the data.
-use Rattle.std.specs.Prelude.{Err, None, Ok, Option, Result, Some, is_ok, true, ℕ, ◌%◌, ◌+◌, ◌<◌, ◌^◌, ◌≡◌, ◌≤◌}
+use Rattle.std.specs.Prelude.{Err, None, Ok, Option, Result, Some, is_ok, true, ℕ, ◌%◌, ◌+◌, ◌<◌, ◌^◌, ◌||◌, ◌≡◌, ◌≤◌}
 use Rattle.mmc_frame.specs.Field.{field}
 use Rattle.mmc_bus.specs.declared.moved.Moved.{Moved}
 use Rattle.mmc_bus.specs.declared.moved.Moved.TheVariants as Move
@@ -16,7 +16,9 @@ use Rattle.mmc_sdhci.specs.Controller.{ControllerView, Settled, has_data, is_set
 use Rattle.mmc_sdhci.specs.Lent.{crosses_none, is_lent_for, size_of}
 use Rattle.mmc_sdhci.specs.declared.dma.Dma.{Dma}
 use Rattle.mmc_sdhci.specs.declared.dma.Dma.TheVariants as Way
-use Rattle.mmc_sdhci.specs.DmaLooks.{AllMoved, SomeMoved}
+use Rattle.mmc_sdhci.specs.DataLooks.{is_complete}
+use Rattle.mmc_sdhci.specs.DmaLooks.{AllMoved, MovingLook, SomeMoved}
+use Rattle.mmc_sdhci.specs.Moving.{is_error}
 
 -- Memory that a controller reaches: by SDMA (bit 22 of Capabilities) within 32 bits, where it crosses no multiple of 512 KiB; by ADMA2
 -- (bit 19) within 32 bits, or, where the system bus has 64 (bit 28), anywhere at a multiple of 8.
@@ -60,6 +62,14 @@ AreCapabilities view capabilities = view.is_kept ≡ true → view.built.capabil
 -- data is moved
 abbrev pub IsMoving : ControllerView → Type 0
 IsMoving view = view.is_kept ≡ true → (view.dma.is_moving ≡ true) × (has_data view.transfer ≡ true)
+
+-- A look found that all of it was moved, or that one failed; without one nothing but what was looked at has changed.
+abbrev pub WatchedMoving : ControllerView → Option ℕ → ControllerView → Type 0
+WatchedMoving old None new = new ≡ record old { status = new.status }
+WatchedMoving old (Some bits) new = ((is_error bits || is_complete bits) ≡ true) × MovingLook old bits new
+
+abbrev pub WatchesMoving : ControllerView → Option ℕ → ControllerView → Type 0
+WatchesMoving old result new = Settled old (WatchedMoving old result new) new
 
 -- All of it was moved, or some and then one failed: of a read, this became of it.
 abbrev pub Ended : ControllerView → Option DataIn → ControllerView → Type 0

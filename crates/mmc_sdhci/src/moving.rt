@@ -1,14 +1,16 @@
 // Data that the controller moves by itself.
-ghost use Rattle.std.specs.Prelude.{◌+◌, ◌<◌, ◌≡◌, ◌^◌, IfSome, false, length, true};
+ghost use Rattle.std.specs.Prelude.{◌+◌, ◌<◌, ◌≡◌, ◌^◌, ◌||◌, IfNone, IfSome, false, length, true};
 ghost use Rattle.mmc_card.specs.declared.exchange.DataIn.TheVariants as Came;
 ghost use Rattle.mmc_sdhci.specs.Accesses.{IsAtRest, Stays};
+ghost use Rattle.mmc_sdhci.specs.Beside.{HasWaited};
 ghost use Rattle.mmc_sdhci.specs.Commands.{RestsButMoves};
 ghost use Rattle.mmc_sdhci.specs.Controller.{lines_in};
-ghost use Rattle.mmc_sdhci.specs.Finishing.{AreCapabilities, Finishes, IsFreeOf, IsLent, IsMoving, IsTabled, Prepares, Reaches};
+ghost use Rattle.mmc_sdhci.specs.DataLooks.{is_complete};
+ghost use Rattle.mmc_sdhci.specs.Finishing.{AreCapabilities, Finishes, IsFreeOf, IsLent, IsMoving, IsTabled, Prepares, Reaches, WatchesMoving};
 ghost use Rattle.mmc_sdhci.specs.Lent.{size_of};
 ghost use Rattle.mmc_sdhci.specs.declared.dma.Dma.TheVariants.{Sdma};
 ghost use Rattle.mmc_sdhci.specs.Lending.{TakesBack};
-ghost use Rattle.mmc_sdhci.specs.Moving.{WhereKept};
+ghost use Rattle.mmc_sdhci.specs.Moving.{WhereKept, is_error};
 
 use crate::command::reset_data;
 use crate::data::came;
@@ -20,22 +22,15 @@ use crate::registers::Registers;
 use crate::settling::pause;
 use crate::start::{SHOWN, control_of};
 use crate::tables::Table;
+use crate::watching::{FIRST_LOOKS, between};
 use mmc_bus::BlocksMut;
 use mmc_card::{DataIn, Lines};
 
 // ADMA Error, which is shown too.
 const DMA_ERROR: u32 = 0x0200_0000;
 
-// Ten seconds and more: the controller's own timeout of data ends it sooner, and this is for one that doesn't. The first looks follow
-// each other at once.
-const FIRST_LOOKS: u32 = 1000;
-
+// Ten seconds and more: the controller's own timeout of data ends it sooner, and this is for one that doesn't.
 const LOOKS: u32 = FIRST_LOOKS + 200_000;
-
-// For how many microseconds nobody looks after this look.
-fn between(look: u32) -> u32 {
-    if look < FIRST_LOOKS { 1 } else { 50 }
-}
 
 // Block Size and Block Count of no data, with the boundary of SDMA. A write of its address also goes on with what has stopped at a
 // boundary (section 2.2.1), and QEMU's controller takes any blocks that are counted still for that.
@@ -122,6 +117,30 @@ pub fn take_places<R: Registers, D: BlocksMut>(registers: &mut R, blocks: &mut D
     registers.take_back();
 }
 
+// Whether a block failed, or all data is moved.
+fn is_over(bits: u32) -> bool
+    ensures { result ≡ (is_error bits || is_complete bits) }
+{
+    bits / 0x8000 % 2 == 1 || bits / 2 % 2 == 1
+}
+
+// Looks until all data is moved, or a block failed; `None` where there is neither for too long.
+fn watch_moving<R: Registers>(registers: &mut R) -> Option<u32>
+    requires rest { RestsButMoves (R.view registers.old) }
+    requires moving { IsMoving (R.view registers.old) }
+    ensures watches { WatchesMoving (R.view registers.old) result (R.view registers.new) }
+    ensures late { IfNone result (HasWaited (R.view registers.new) 10000000 (R.beside registers.old) (R.beside registers.new)) }
+{
+    for number in 0..LOOKS {
+        let bits = registers.read32(INTERRUPTS);
+        if is_over(bits) {
+            return Some(bits);
+        }
+        pause(registers, between(number));
+    }
+    None
+}
+
 /// Waits until all data is moved, and tells what became of a block of a read that failed. Then the data line is reset, so that nothing is
 /// moved any more.
 pub fn finish<R: Registers>(registers: &mut R) -> Option<DataIn>
@@ -131,17 +150,17 @@ pub fn finish<R: Registers>(registers: &mut R) -> Option<DataIn>
     ensures finishes { Finishes (R.view registers.old) result (R.view registers.new) }
     ensures bad { IfSome result (λ got. got ≡ Came.Good → ⊥) }
 {
-    for number in 0..LOOKS {
-        let bits = registers.read32(INTERRUPTS);
-        if bits / 0x8000 % 2 == 1 {
+    match watch_moving(registers) {
+        None => {
             reset_data(registers);
-            return Some(came(bits));
+            Some(DataIn::Nothing)
         }
-        if bits / 2 % 2 == 1 {
-            return None;
+        Some(bits) => {
+            if bits / 0x8000 % 2 == 0 {
+                return None;
+            }
+            reset_data(registers);
+            Some(came(bits))
         }
-        pause(registers, between(number));
     }
-    reset_data(registers);
-    Some(DataIn::Nothing)
 }

@@ -88,7 +88,7 @@ impl<R: Registers> Sdhci<R> {
         ensures limits { IfOk result (λ host. WhereKept (R.view host.registers)
             (host.limits ≡ limits_of (R.view host.registers).built)) }
         ensures unused { IfOk result (λ host. IsUnused (host_over (R.view host.registers) (told_so host.state host.told) host.limits)) }
-        ensures unready { IfErr result (λ failed. IsUnready failed.1 (R.view failed.0)) }
+        ensures unready { IfErr result (λ failed. IsUnready failed.1 (R.view failed.0) (R.beside failed.0)) }
         ensures unused_again { IfErr result (λ failed. IsNew (R.view failed.0)) }
         ensures left { IfErr result (λ failed. Settled (R.view registers)
             (IsSameCard (R.view registers) (R.view failed.0)) (R.view failed.0)) }
@@ -138,7 +138,7 @@ impl<R: Registers> Sdhci<R> {
             (host.limits ≡ limits_of (R.view host.registers).built)) }
         ensures between { IfOk result (λ host. IsBetween (told_so host.state host.told)) }
         ensures fault { IfErr result (λ failed. failed.1 ≡ NoBaseClock) }
-        ensures unready { IfErr result (λ failed. IsUnready failed.1 (R.view failed.0)) }
+        ensures unready { IfErr result (λ failed. IsUnready failed.1 (R.view failed.0) (R.beside failed.0)) }
         ensures stays { IfErr result (λ failed. Stays (R.view registers) (R.view failed.0)) }
     {
         let mut registers = registers;

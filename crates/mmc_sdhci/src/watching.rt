@@ -11,14 +11,14 @@ use crate::settling::pause;
 
 // 100 ms for a block of a read, half a second for one of a write: a millisecond of looks that follow each other at once, and then
 // others, so that a pause that takes longer than it was asked for makes the wait not much longer.
-const FIRST_LOOKS: u32 = 1000;
+pub(crate) const FIRST_LOOKS: u32 = 1000;
 
 const LOOKS_FOR_A_BLOCK: u32 = FIRST_LOOKS + 1980;
 
 const LOOKS_FOR_A_WRITE: u32 = FIRST_LOOKS + 9980;
 
 // For how many microseconds nobody looks after this look.
-fn between(look: u32) -> u32
+pub(crate) fn between(look: u32) -> u32
     ensures first { look < 1000 → result ≡ 1 }
     ensures then { 1000 ≤ look → result ≡ 50 }
 {

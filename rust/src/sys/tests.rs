@@ -5,16 +5,17 @@ extern crate std;
 use core::ffi::{c_char, CStr};
 use core::mem::{offset_of, size_of};
 
+use super::queue::{CQueue, CRequest, Queue, Request, Slot};
 use super::*;
 
 extern "C" {
     static kelifandro_rust_layout_length: usize;
     static kelifandro_rust_layout: [usize; LAYOUT.len()];
-    fn kelifandro_text(result: i32) -> *const c_char;
+    fn kelifandro_queue_text(result: i32) -> *const c_char;
 }
 
 #[rustfmt::skip]
-const LAYOUT: [usize; 65] = [
+const LAYOUT: [usize; 99] = [
     size_of::<CCommand>(), offset_of!(CCommand, response), offset_of!(CCommand, data),
     offset_of!(CCommand, argument), offset_of!(CCommand, block_length), offset_of!(CCommand, blocks),
     size_of::<CMoved>(), offset_of!(CMoved, failed),
@@ -36,6 +37,17 @@ const LAYOUT: [usize; 65] = [
     size_of::<CKelifandro>(), offset_of!(CKelifandro, registers), offset_of!(CKelifandro, card),
     offset_of!(CKelifandro, healed), offset_of!(CKelifandro, scr), offset_of!(CKelifandro, ext_csd),
     offset_of!(CKelifandro, was_reset), offset_of!(CKelifandro, call), size_of::<u32>(),
+    size_of::<CRequest>(), offset_of!(CRequest, part), offset_of!(CRequest, client), offset_of!(CRequest, start),
+    offset_of!(CRequest, count), offset_of!(CRequest, memory), offset_of!(CRequest, answered),
+    offset_of!(CRequest, context), offset_of!(CRequest, result), offset_of!(CRequest, ticket),
+    offset_of!(CRequest, queue),
+    size_of::<Slot>(), offset_of!(Slot, whose), offset_of!(Slot, start), offset_of!(Slot, count),
+    offset_of!(Slot, client), offset_of!(Slot, state), offset_of!(Slot, kind), offset_of!(Slot, part),
+    offset_of!(Slot, answer),
+    size_of::<CQueue>(), offset_of!(CQueue, slots), offset_of!(CQueue, count), offset_of!(CQueue, gather),
+    offset_of!(CQueue, gather_sectors), offset_of!(CQueue, lock), offset_of!(CQueue, unlock), offset_of!(CQueue, wake),
+    offset_of!(CQueue, context), offset_of!(CQueue, opened), offset_of!(CQueue, next), offset_of!(CQueue, is_open),
+    offset_of!(CQueue, is_turning), offset_of!(CQueue, members),
 ];
 
 #[test]
@@ -54,11 +66,19 @@ fn a_card_is_776_bytes() {
     assert_eq!(size_of::<Raw>(), 776);
 }
 
+/// What the documentation says that a queue and its slots keep.
+#[test]
+#[cfg(target_pointer_width = "64")]
+fn a_queue_is_464_bytes() {
+    assert_eq!(size_of::<Queue<'_>>(), 464);
+    assert_eq!(size_of::<Slot>(), 32);
+}
+
 #[test]
 fn texts_are_the_librarys() {
     for error in Error::ALL.into_iter().chain([Error::Unknown(-99)]) {
         // SAFETY: it answers a text, whatever it is asked
-        let text = unsafe { CStr::from_ptr(kelifandro_text(error.number())) };
+        let text = unsafe { CStr::from_ptr(kelifandro_queue_text(error.number())) };
         assert_eq!(std::format!("{error}").as_bytes(), text.to_bytes());
     }
 }
@@ -218,4 +238,34 @@ fn what_a_host_is_told_of_a_command() {
         (index, argument, block_length, blocks),
         (25, 0x1234_5678, 512, 300)
     );
+}
+
+/// The numbers of `enum kelifandro_kind` and `enum kelifandro_part`, and each sector.
+#[test]
+fn what_c_is_told_of_a_request() {
+    let (mut alone, mut again, shared) = ([[0; BLOCK]; 2], [[0; BLOCK]; 3], [[0; BLOCK]; 4]);
+    let memory = [
+        alone.as_mut_ptr().cast_const(),
+        shared.as_ptr(),
+        again.as_mut_ptr().cast_const(),
+        ptr::null(),
+        ptr::null(),
+    ];
+    let requests = [
+        Request::read(Partition::Boot2, 1, &mut alone),
+        Request::write(Partition::Gp4, 2, &shared),
+        Request::write_mut(Partition::User, 3, &mut again),
+        Request::erase(Partition::User, u32::MAX, 6),
+        Request::trim(Partition::Boot1, 5, u32::MAX),
+    ];
+    let counts = [2, 4, 3, 6, u32::MAX];
+    let kinds = [(0, 2), (1, 6), (1, 0), (2, 0), (3, 1)];
+    let starts = [1, 2, 3, u32::MAX, 5];
+    for (at, request) in requests.into_iter().enumerate() {
+        let raw = request.of_client(7).raw;
+        assert_eq!((raw.kind, raw.part), kinds[at]);
+        assert_eq!((raw.start, raw.count), (starts[at], counts[at]));
+        assert_eq!(raw.memory.cast_const().cast(), memory[at]);
+        assert_eq!((raw.client, raw.answered), (7, None));
+    }
 }

@@ -1,6 +1,6 @@
 use Rattle.std.proofs.Common.{◌∙◌, refl, rules, sym, w32}
 use Rattle.std.proofs.lemmas.Int.{to_z-of_z}
-use Rattle.mmc_direct.specs.declared.asked.Asked.{Asked}
+use Rattle.mmc_requests.specs.declared.asked.Asked.{Asked}
 use Rattle.mmc_requests.specs.declared.kind.Kind.TheVariants.{Read, Write}
 use Rattle.kelifandro.specs.History.{Told}
 use Rattle.kelifandro.proofs.ReadBackLemmas.{read_after}

@@ -2,7 +2,7 @@ use Rattle.std.proofs.Common.{◌+◌, ◌∙◌, ◌≡◌, ap, arith, subst, s
 use Rattle.std.specs.Prelude.{Err, None, Ok}
 use Rattle.mmc_direct.specs.Attempts.{exchanges_of}
 use Rattle.mmc_direct.specs.Refusal.{refusal_of}
-use Rattle.mmc_direct.specs.declared.asked.Asked.{Asked}
+use Rattle.mmc_requests.specs.declared.asked.Asked.{Asked}
 use Rattle.mmc_requests.specs.declared.limits.TheConstants.{ATTEMPTS}
 use Rattle.mmc_switch.specs.Stands.{info_of}
 use Rattle.mmc_switch.specs.declared.stands.Stands.TheVariants as Stands

@@ -1,4 +1,4 @@
-use Rattle.std.proofs.Common.{◌+◌, ◌<◌, ◌≤◌, arith, length, refl}
+use Rattle.std.proofs.Common.{◌+◌, arith, refl}
 use Rattle.mmc_queue.specs.LentLaws.{first_below}
 use Rattle.mmc_queue.specs.declared.held.Held.TheVariants.{Room}
 use Rattle.mmc_queue.proofs.LentLemmas.{place_below, place_written}

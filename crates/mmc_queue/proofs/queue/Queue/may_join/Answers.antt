@@ -8,14 +8,14 @@ returns-then-fits c =
     let there : at_ticket c.args.ticket c.args.self.now ≡ Some c.in-Some.entry.now =
     subst (λ ws. at_ticket c.args.ticket ws ≡ Some c.in-Some.entry.now) c.self.view_is
     (same_lookup c.args.ticket c.self.inside.by_ticket.entries c.self.invariant.keyed ∙ sym c.in-Some.ensures.value) in
-    rw (there, sym c.fits.ensures ∙ c.if-fits.true) c.passes_none.ensures
+    rw (there, sym (c.fits.ensures c.in-Some.entry.now.request c.asked.ensures) ∙ c.if-fits.true) c.passes_none.ensures
 
 pub returns-else-fits : goal.returns-else-fits
 returns-else-fits c =
     let there : at_ticket c.args.ticket c.args.self.now ≡ Some c.in-Some.entry.now =
     subst (λ ws. at_ticket c.args.ticket ws ≡ Some c.in-Some.entry.now) c.self.view_is
     (same_lookup c.args.ticket c.self.inside.by_ticket.entries c.self.invariant.keyed ∙ sym c.in-Some.ensures.value) in
-    rw (there, sym c.fits.ensures ∙ c.if-fits.false) c.if-fits.false
+    rw (there, sym (c.fits.ensures c.in-Some.entry.now.request c.asked.ensures) ∙ c.if-fits.false) c.if-fits.false
 
 pub returns-in-None : goal.returns-in-None
 returns-in-None c =

@@ -1,4 +1,4 @@
-use Rattle.std.proofs.Common.{subst}
+use Rattle.std.proofs.Common.{arith, subst}
 use Rattle.mmc_queue.specs.Rule.{begins}
 use Rattle.mmc_queue.specs.Waiting.{AreSound}
 use Rattle.mmc_queue.proofs.FairLemmas.{fair}
@@ -18,5 +18,5 @@ returns-clause-fair c some =
     let e = c.in-Some.oldest in
     let g = c.grow.ensures c.args.self.now
     (rw (c.take_alone.ensures.extent, c.take_alone.ensures.members) (begins e c.take_oldest.new.self c.in-Some.ensures.taken)) in
-    (fair c.args.self.now c.grow.new.group.members.items c.grow.new.group.extent c.grow.new.self c.in-Some.ensures.ascend
-    c.in-Some.ensures.sound g.grown).0
+    (fair 1024 c.args.self.now c.grow.new.group.members.items c.grow.new.group.extent c.grow.new.self (omega arith)
+    c.in-Some.ensures.ascend c.in-Some.ensures.sound g.grown).0

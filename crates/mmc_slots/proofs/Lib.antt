@@ -1,0 +1,6 @@
+mod GapLemmas
+mod GroupLemmas
+mod SearchLemmas
+mod ServedLemmas
+mod SlotLemmas
+mod TicketLemmas

@@ -1,0 +1,7 @@
+mod BlockLemmas
+mod JoinedLemmas
+mod LentLemmas
+mod ServingLemmas
+mod StartLemmas
+mod StepLemmas
+mod TicketLemmas
