@@ -369,6 +369,8 @@ ON_STACK APART static int32_t serve(struct kelifandro *kelifandro, struct kelifa
         *done = 0;
     if (!is_given(kelifandro))
         return KELIFANDRO_NO_HOST;
+    if (!asked.attempts)
+        asked.attempts = kelifandro->attempts;
     way = begin_call(kelifandro, &at, bytes, blocks);
     memory = kelifandro->call.memory;
     if (length == LONG)
@@ -380,9 +382,14 @@ ON_STACK APART static int32_t serve(struct kelifandro *kelifandro, struct kelifa
     return end_call(kelifandro, result);
 }
 
+int32_t kelifandro_serve(struct kelifandro *kelifandro, const struct kelifandro_asked *asked, const void *bytes)
+{
+    return serve(kelifandro, *asked, bytes, SHORT, 0);
+}
+
 static struct kelifandro_asked asked_of(enum kelifandro_kind kind, enum kelifandro_part part, uint64_t start, uint64_t count)
 {
-    struct kelifandro_asked asked = {start, count, (uint32_t)part, (uint32_t)kind};
+    struct kelifandro_asked asked = {start, count, (uint32_t)part, (uint16_t)kind, 0};
     return asked;
 }
 

@@ -51,7 +51,7 @@ enum kelifandro_result {
     KELIFANDRO_NOT_ERASABLE = -6,
     /* Neither a host nor registers are given. */
     KELIFANDRO_NO_HOST = -7,
-    /* Four attempts have failed, by the cause that is named. Each sector of a write, an erase or a trim is old or new. The card stays
+    /* All attempts have failed, four where `attempts` doesn't say, by the cause that is named. Each sector of a write, an erase or a trim is old or new. The card stays
        open: the next request settles it first, or resets it; RECOVERY says that the last attempt couldn't even settle it. */
     KELIFANDRO_FAILED_ANSWER = -10,
     KELIFANDRO_FAILED_DATA = -11,
@@ -265,7 +265,7 @@ enum kelifandro_kind { KELIFANDRO_READS, KELIFANDRO_WRITES, KELIFANDRO_ERASES, K
    it is there. To settle a card is to end what runs, set the length of blocks again, and ask until its status is clean, once more where
    the response to CMD12 or CMD13 is lost; where that fails it is reset and identified anew. */
 struct kelifandro_healed {
-    uint64_t attempts; /* at requests, four at most each, with success or without */
+    uint64_t attempts; /* at requests, with success or without */
     /* How many of them failed: a response wasn't heard; a block was bad, missing or rejected; a status showed an error; the card was busy
        for too long; the card couldn't be settled. */
     uint64_t by_answer, by_data, by_status, by_busy, by_recovery;
@@ -295,6 +295,8 @@ struct kelifandro {
     uint8_t scr[8];
     /* May be 0. 512 bytes for the EXT_CSD of an eMMC device, to which it is copied as it came (JESD84-B51, section 7.4); 0 of an SD card. */
     uint8_t *ext_csd;
+    /* How many attempts a request has at most, each of which may fail: 0 is four. After each that fails the card is settled. */
+    uint16_t attempts;
     /* 1 once the card was reset and identified anew within a call after opening: its registers said that it is the same card, and who
        keeps blocks of it elsewhere and can't rely on that drops them, and writes 0 here. */
     uint8_t was_reset;

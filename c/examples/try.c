@@ -314,6 +314,28 @@ static void boards(void)
     }
 }
 
+static int reject(void *context, const void *block)
+{
+    (void)context, (void)block;
+    return 1;
+}
+
+/* A block that is always rejected: as many attempts fail as the caller says, or four. */
+static void attempts(void)
+{
+    static const uint16_t said[] = {0, 1, 2, 9, 300};
+    for (size_t i = 0; i < sizeof said / sizeof *said; i++) {
+        begin(0, HOST);
+        expect(kelifandro_open(&sd) == KELIFANDRO_DONE, "open", i);
+        host.write_block = reject;
+        sd.attempts = said[i];
+        expect(kelifandro_write(&sd, KELIFANDRO_USER, 3, 1, data) == KELIFANDRO_FAILED_DATA, "it fails", said[i]);
+        expect(sd.healed.attempts == (said[i] ? said[i] : 4) && failures() == sd.healed.attempts, "as many attempts as are said", said[i]);
+        host.write_block = card_host.write_block;
+        expect(kelifandro_write(&sd, KELIFANDRO_USER, 3, 1, data) == KELIFANDRO_DONE, "the next is settled first", said[i]);
+    }
+}
+
 static void lost_ways(void)
 {
     begin(0, HOST);
@@ -618,6 +640,7 @@ int main(int words, char **word)
     within_each_other();
     one_line(0), one_line(1);
     boards();
+    attempts();
     lost_ways();
     clocks();
     beyond_reach();

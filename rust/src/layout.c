@@ -23,7 +23,7 @@ const size_t kelifandro_rust_layout[] = {
     sizeof(struct kelifandro_healed), PLACE(kelifandro_healed, by_answer), PLACE(kelifandro_healed, by_recovery),
     PLACE(kelifandro_healed, settlings), PLACE(kelifandro_healed, resets),
     sizeof(struct kelifandro), PLACE(kelifandro, registers), PLACE(kelifandro, card), PLACE(kelifandro, healed), PLACE(kelifandro, scr),
-    PLACE(kelifandro, ext_csd), PLACE(kelifandro, was_reset), PLACE(kelifandro, call), sizeof(enum kelifandro_part),
+    PLACE(kelifandro, ext_csd), PLACE(kelifandro, attempts), PLACE(kelifandro, was_reset), PLACE(kelifandro, call), sizeof(enum kelifandro_part),
     sizeof(struct kelifandro_request), PLACE(kelifandro_request, part), PLACE(kelifandro_request, client), PLACE(kelifandro_request, start),
     PLACE(kelifandro_request, count), PLACE(kelifandro_request, memory), PLACE(kelifandro_request, answered),
     PLACE(kelifandro_request, context), PLACE(kelifandro_request, result), PLACE(kelifandro_request, ticket),

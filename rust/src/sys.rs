@@ -132,6 +132,7 @@ pub struct CKelifandro {
     healed: Healed,
     scr: [u8; 8],
     ext_csd: *mut u8,
+    attempts: u16,
     was_reset: u8,
     call: CCall,
 }
@@ -253,6 +254,7 @@ impl Raw {
             healed: Healed::NONE,
             scr: [0; 8],
             ext_csd: ptr::null_mut(),
+            attempts: 0,
             was_reset: 0,
             call: CCall::NONE,
         })
@@ -269,6 +271,10 @@ impl Raw {
 
     pub(crate) fn scr(&self) -> [u8; 8] {
         self.0.scr
+    }
+
+    pub(crate) fn set_attempts(&mut self, attempts: u16) {
+        self.0.attempts = attempts;
     }
 
     pub(crate) fn take_was_reset(&mut self) -> bool {

@@ -36,7 +36,7 @@ const LAYOUT: [usize; 99] = [
     offset_of!(Healed, settlings), offset_of!(Healed, resets),
     size_of::<CKelifandro>(), offset_of!(CKelifandro, registers), offset_of!(CKelifandro, card),
     offset_of!(CKelifandro, healed), offset_of!(CKelifandro, scr), offset_of!(CKelifandro, ext_csd),
-    offset_of!(CKelifandro, was_reset), offset_of!(CKelifandro, call), size_of::<u32>(),
+    offset_of!(CKelifandro, attempts), offset_of!(CKelifandro, was_reset), offset_of!(CKelifandro, call), size_of::<u32>(),
     size_of::<CRequest>(), offset_of!(CRequest, part), offset_of!(CRequest, client), offset_of!(CRequest, start),
     offset_of!(CRequest, count), offset_of!(CRequest, memory), offset_of!(CRequest, answered),
     offset_of!(CRequest, context), offset_of!(CRequest, result), offset_of!(CRequest, ticket),
