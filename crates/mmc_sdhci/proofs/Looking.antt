@@ -86,8 +86,8 @@ pub runs_still : (first between after : ControllerView) (bits : ℕ) → bits �
 runs_still first between after bits none ends stays =
     stays_so first between after
     (λ kept.
-      let e = ends kept in
-      (e.0, λ run is. still first between run bits (ap (λ n. bit_and n of_a_command) none) (e.1 run is)))
+    let e = ends kept in
+    (e.0, λ run is. still first between run bits (ap (λ n. bit_and n of_a_command) none) (e.1 run is)))
     stays
 
 -- one that shows other bits alone

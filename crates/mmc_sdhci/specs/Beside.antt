@@ -1,8 +1,10 @@
 -- What a driver has beside the card: how long it has waited, and what Present State showed it last (SD Host Controller Simplified
 -- Specification 3.00, section 2.2.9).
-use Rattle.std.specs.Prelude.{Bool, bit_and, if◌then◌else◌, true, ℕ, ◌&&◌, ◌+◌, ◌==◌, ◌≡◌, ◌≤◌}
+use Rattle.std.specs.Prelude.{Bool, bit_and, if◌then◌else◌, nat_le, true, ℕ, ◌&&◌, ◌*◌, ◌+◌, ◌-◌, ◌==◌, ◌≡◌, ◌≤◌}
 use Rattle.mmc_frame.specs.Field.{field}
 use Rattle.mmc_sdhci.specs.Controller.{ControllerView}
+use Rattle.mmc_sdhci.specs.declared.following.Following.{Following}
+use Rattle.mmc_sdhci.specs.declared.following.Following.TheVariants.{Another, End}
 use Rattle.mmc_sdhci.specs.declared.watching.Sought.{Sought}
 use Rattle.mmc_sdhci.specs.declared.watching.Sought.TheVariants as sought
 
@@ -85,6 +87,24 @@ looks_for sought.Block = 2980
 looks_for (sought.Good following) = 2980
 looks_for sought.Room = 10980
 looks_for (sought.Gone following) = 10980
+
+-- so many looks take so long at least
+abbrev pub time_of : ℕ → ℕ
+time_of looks = if nat_le looks 1000 then looks else 50 * looks - 49000
+
+-- The interrupts that tell of it: bit 5 a block is in the buffer, bit 4 there is room for one, bit 1 all data is over; or an error.
+abbrev pub errors : ℕ
+errors = 0x007f0000
+
+abbrev pub interrupt_after : ℕ → Following → ℕ
+interrupt_after ready End = 0x02
+interrupt_after ready Another = ready
+
+abbrev pub interrupts_for : Sought → ℕ
+interrupts_for sought.Block = 0x20 + errors
+interrupts_for (sought.Good following) = interrupt_after 0x20 following + errors
+interrupts_for sought.Room = 0x10 + errors
+interrupts_for (sought.Gone following) = interrupt_after 0x10 following + errors
 
 -- where nothing is told
 abbrev pub untold : Beside
