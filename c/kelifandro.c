@@ -80,6 +80,7 @@ APART static struct kelifandro_way way_of(const struct kelifandro *kelifandro, c
         way.is_by_words = registers->is_by_words;
         way.capabilities = registers->capabilities;
         way.lends = registers->lend != 0;
+        way.waits = registers->wait != 0;
         way.table_size = (uint16_t)(registers->table_size < LONGEST_TABLE ? registers->table_size : LONGEST_TABLE);
     }
 #ifdef KELIFANDRO_WITHOUT_SD
@@ -212,6 +213,9 @@ APART static void tell_registers(struct kelifandro_call *call, const struct keli
     switch (record[0]) {
     case KELIFANDRO_PAUSE:
         registers->pause(registers->context, word_at(record + 1));
+        break;
+    case KELIFANDRO_WAIT:
+        registers->wait(registers->context, word_at(record + 1), word_at(record + 5));
         break;
     case KELIFANDRO_AFTER:
         call->memory = (uint8_t *)call->memory + (size_t)word_at(record + 1) * BLOCK;

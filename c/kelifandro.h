@@ -190,8 +190,16 @@ struct kelifandro_registers {
     void (*write)(void *context, unsigned offset, unsigned size, uint32_t value);
     /* Waits so long at least. While a block or the end of a write is waited for it is asked for a microsecond a thousand times, and
        then for 50, ten thousand times at most, and while DMA moves all blocks two hundred thousand times; while the card is busy for
-       10, as often as the look takes. So one that takes a tick of a clock for each makes these waits as much longer. */
+       10, as often as the look takes. So one that takes a tick of a clock for each makes these waits as much longer. With `wait` it is
+       asked for once or twice before each, and while the card is busy for a quarter of the time that this has taken so far, from 10 to
+       1,000 microseconds. */
     void (*pause)(void *context, uint32_t microseconds);
+    /* May be 0. Returns once one of these bits of Interrupt Status is set (30h, 32 bits, errors in the upper half; section 2.2.17 and
+       2.2.18), or so many microseconds are over, and no sooner: an operating system's processor has other work meanwhile. The status says
+       so, and not the interrupt: a bit may be set before the call, and a line fires for others and for nothing. It clears no bit, and no
+       other function here may wait for it. Signal Enable (38h) is this function's: opening the card writes 0 to it, and nothing else of the
+       library does. Without it the library looks again and again. docs/PORTING.md has one. */
+    void (*wait)(void *context, uint32_t interrupts, uint32_t microseconds);
     /* May be 0. So many words through the Buffer Data Port (20h), the lowest byte of a word first in memory: as readsl and writesl. */
     void (*read_port)(void *context, void *bytes, size_t words);
     void (*write_port)(void *context, const void *bytes, size_t words);

@@ -7,12 +7,12 @@
 
 /* The way to a card (crates/c_host/src/given.rt). `stream` is a number of the caller's choice, which comes back with each record of the
    call. `by` is 0 for a host, which has so many lines, and high speed, and switches the card's power, or not; else registers, of which one
-   line alone is wired or more, with what a board knows in place of the controller, whether memory is lent, and how many bytes a table may
-   have. Without a kind of card none of that kind is ever asked whether it is ready. */
+   line alone is wired or more, with what a board knows in place of the controller, whether memory is lent, how many bytes a table may
+   have, and whether interrupts are waited for. Without a kind of card none of that kind is ever asked whether it is ready. */
 struct kelifandro_way {
     uint32_t stream, capabilities;
     uint16_t table_size;
-    uint8_t by, lines, high_speed, is_there, is_by_words, lends, switches_power, without_sd, without_mmc;
+    uint8_t by, lines, high_speed, is_there, is_by_words, lends, waits, switches_power, without_sd, without_mmc;
 };
 
 /* Of kelifandro.c. The library puts a record of an operation, or a block, and gets what came of it: both answer how many bytes. */
@@ -34,6 +34,7 @@ enum kelifandro_record {
     KELIFANDRO_LEND = 14,
     KELIFANDRO_TAKE_BACK = 17,
     KELIFANDRO_LEND_TABLE,
+    KELIFANDRO_WAIT,
     /* a line of a table begins with its attributes: one of several, and the last */
     KELIFANDRO_LINE = 0x21,
     KELIFANDRO_LAST_LINE = 0x23
