@@ -8,7 +8,7 @@ ghost use Rattle.mmc_queue.specs.Waiting.{Takes};
 ghost use Rattle.mmc_record.specs.Note.{is_note};
 ghost use Rattle.mmc_record.specs.Numbers.{part_of};
 ghost use Rattle.mmc_requests.specs.declared.limits.TheConstants.{MAX_COUNT};
-ghost use Rattle.mmc_slots.specs.Accepted.{entry_with, refusal};
+ghost use Rattle.mmc_slots.specs.Accepted.{TakesSlot, entry_with, refusal};
 ghost use Rattle.mmc_slots.specs.Cancelled.{IsWhy};
 ghost use Rattle.mmc_slots.specs.Served.{IsAnswered, IsSplit};
 ghost use Rattle.mmc_slots.specs.Slots.{AreOrdered, Memory, entries_in, entry_of, taken};
@@ -51,6 +51,7 @@ fn submit_to(
     ensures others { (memory : Memory) (state : ℕ) → state ≢ FREE → state ≢ WAITS
         → entries_in memory state slots.new ≡ entries_in memory state slots.old }
     ensures next { result ≡ pos 1 → next.new ≡ next.old + 1 }
+    ensures whose { result ≡ pos 1 → TakesSlot next.old whose slots.old slots.new }
     ensures unchanged { (result ≡ pos 1 → ⊥) → (slots.new ≡ slots.old) × (next.new ≡ next.old) }
 {
     submitted_number(submit(stands.info(), slots, next, client, asked, whose))
@@ -78,6 +79,7 @@ pub extern "C" fn kelifandro_submit_by(
     ensures others { (memory : Memory) (state : ℕ) → state ≢ FREE → state ≢ WAITS
         → entries_in memory state slots.new ≡ entries_in memory state slots.old }
     ensures next { result ≡ pos 1 → next.new ≡ next.old + 1 }
+    ensures whose { result ≡ pos 1 → TakesSlot next.old whose slots.old slots.new }
     ensures unchanged { (result ≡ pos 1 → ⊥) → (slots.new ≡ slots.old) × (next.new ≡ next.old) }
 {
     match (request.asked(), stands_by(card)) {

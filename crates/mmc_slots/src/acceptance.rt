@@ -1,6 +1,6 @@
 // Which requests may wait, and under which ticket.
 ghost use Rattle.std.specs.Prelude.{◌≡◌, ◌≢◌, ◌++◌, ◌+◌, ◌<◌, ◌∷◌, ◌^◌, Err, IfSome, IsOk, None, OnErr, OnOk, [], ℕ};
-ghost use Rattle.mmc_slots.specs.Accepted.{entry_with, refusal};
+ghost use Rattle.mmc_slots.specs.Accepted.{TakesSlot, entry_with, refusal};
 ghost use Rattle.mmc_slots.specs.Slots.{AreOrdered, Memory, entries_in, taken};
 ghost use Rattle.mmc_slots.specs.Work.{work_left};
 ghost use Rattle.mmc_slots.specs.declared.acceptance.NotAccepted.TheVariants as Not;
@@ -56,6 +56,7 @@ pub fn submit(
     ensures free { refusal info.now asked.now ≡ None → asked.now.start + asked.now.count < 2 ^ 32 → next.old + 1 < 2 ^ 64
         → taken slots.old ≢ slots.old → IsOk result }
     ensures next { OnOk result (next.new ≡ next.old + 1) }
+    ensures whose { OnOk result (TakesSlot next.old memory slots.old slots.new) }
     ensures waits { OnOk result ((memory : Memory)
         → entries_in memory WAITS slots.new ≡ entries_in memory WAITS slots.old ++ entry_with memory client asked.now next.old ∷ []) }
     ensures others { (memory : Memory) (state : ℕ) → state ≢ FREE → state ≢ WAITS

@@ -77,6 +77,7 @@ impl Slot {
     /// A request that waits; `None` where a slot can't name its sectors, which takes numbers of 33 bits.
     pub fn of(asked: &Asked, ticket: u64, client: u32, memory: u64) -> Option<Slot>
         ensures ticket { IfSome result (λ s. s.ticket ≡ ticket) }
+        ensures whose { IfSome result (λ s. s.memory ≡ memory) }
         ensures entry { IfSome result (λ s. (memory : Memory) → entry_of memory s ≡ entry_with memory client asked.now ticket) }
         ensures wide { IsNone result → asked.now.start < 2 ^ 32 → 2 ^ 32 ≤ asked.now.count }
     {

@@ -9,6 +9,14 @@ where_ok : (result : Result Unit Full) (Holds : Type 0) → is_err result ≡ fa
 where_ok (Ok done) Holds is h = h
 where_ok (Err full) Holds is h = absurd cc
 
+pub returns-clause-whose : goal.returns-clause-whose
+returns-clause-whose c = (
+  c.in-Some-of.slot,
+  c.in-Some-of.ensures.ticket,
+  c.in-Some-of.ensures.whose,
+  where_ok c.push.result _ (sym c.is_err.ensures.value ∙ c.if-is_err.false) c.push.ensures.taken,
+)
+
 pub returns-clause-more : goal.returns-clause-more
 returns-clause-more c =
     one_waits (λ t. []) (entry_of (λ t. []) c.in-Some-of.slot) c.args.slots.now c.push.new.slots
