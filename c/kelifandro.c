@@ -81,6 +81,7 @@ APART static struct kelifandro_way way_of(const struct kelifandro *kelifandro, c
         way.capabilities = registers->capabilities;
         way.lends = registers->lend != 0;
         way.waits = registers->wait != 0;
+        way.kept_interrupts = registers->kept_interrupts;
         way.table_size = (uint16_t)(registers->table_size < LONGEST_TABLE ? registers->table_size : LONGEST_TABLE);
     }
 #ifdef KELIFANDRO_WITHOUT_SD

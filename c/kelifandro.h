@@ -196,9 +196,9 @@ struct kelifandro_registers {
     void (*pause)(void *context, uint32_t microseconds);
     /* May be 0. Returns once one of these bits of Interrupt Status is set (30h, 32 bits, errors in the upper half; section 2.2.17 and
        2.2.18), or so many microseconds are over, and no sooner: an operating system's processor has other work meanwhile. The status says
-       so, and not the interrupt: a bit may be set before the call, and a line fires for others and for nothing. It clears no bit, and no
-       other function here may wait for it. Signal Enable (38h) is this function's: opening the card writes 0 to it, and nothing else of the
-       library does. Without it the library looks again and again. docs/PORTING.md has one. */
+       so, and not the interrupt: a bit may be set before the call, and a line fires for others and for nothing. It clears no bit. Signal
+       Enable (38h) is this function's: opening the card writes `kept_interrupts` to it, and nothing else of the library writes there. Without
+       it the library looks again and again. docs/PORTING.md has one. */
     void (*wait)(void *context, uint32_t interrupts, uint32_t microseconds);
     /* May be 0. So many words through the Buffer Data Port (20h), the lowest byte of a word first in memory: as readsl and writesl. */
     void (*read_port)(void *context, void *bytes, size_t words);
@@ -229,6 +229,9 @@ struct kelifandro_registers {
                               addresses of 64 bits. Where the clock alone is wrong, what is read with another clock. A controller before
                               3.00 has six bits for it: one that is told as faster than 63 MHz isn't opened
                               (KELIFANDRO_NO_BASE_CLOCK), and one beyond 255 MHz can't be told: divide it before */
+    uint32_t kept_interrupts; /* bits 6 and 7: that a card was inserted, or removed, which somebody else waits for. Opening the card resets
+                                 the controller, and then sets these in Status Enable and Signal Enable (34h, 38h; sections 2.2.19 and
+                                 2.2.21), of which the former keeps them; they are never cleared in Interrupt Status. Other bits say nothing */
 };
 
 /* What is known of a card between two calls. It may be copied, moved and stored as long as card and controller keep their power

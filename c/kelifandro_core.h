@@ -8,9 +8,9 @@
 /* The way to a card (crates/c_host/src/given.rt). `stream` is a number of the caller's choice, which comes back with each record of the
    call. `by` is 0 for a host, which has so many lines, and high speed, and switches the card's power, or not; else registers, of which one
    line alone is wired or more, with what a board knows in place of the controller, whether memory is lent, how many bytes a table may
-   have, and whether interrupts are waited for. Without a kind of card none of that kind is ever asked whether it is ready. */
+   have, whether interrupts are waited for, and which somebody else wants. Without a kind of card none of that kind is ever asked whether it is ready. */
 struct kelifandro_way {
-    uint32_t stream, capabilities;
+    uint32_t stream, capabilities, kept_interrupts;
     uint16_t table_size;
     uint8_t by, lines, high_speed, is_there, is_by_words, lends, waits, switches_power, without_sd, without_mmc;
 };
@@ -97,7 +97,7 @@ KELIFANDRO_IS_SO(by_recovery, offsetof(struct kelifandro_healed, by_recovery) ==
 KELIFANDRO_IS_SO(resets, offsetof(struct kelifandro_healed, resets) == 56);
 KELIFANDRO_IS_SO(healed, sizeof(struct kelifandro_healed) == 64);
 KELIFANDRO_IS_SO(part, sizeof(enum kelifandro_part) == 4);
-KELIFANDRO_IS_SO(way, sizeof(struct kelifandro_way) == 20);
+KELIFANDRO_IS_SO(way, sizeof(struct kelifandro_way) == 24);
 KELIFANDRO_IS_SO(attempts, offsetof(struct kelifandro_asked, attempts) == 22);
 KELIFANDRO_IS_SO(asked, sizeof(struct kelifandro_asked) == 24);
 #ifdef KELIFANDRO_QUEUE_H

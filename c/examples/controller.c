@@ -2,7 +2,7 @@
 #include "controller.h"
 
 enum { COMMAND_COMPLETE = 1, TRANSFER_COMPLETE = 2, WRITE_READY = 0x10, READ_READY = 0x20, ERROR = 0x8000 };
-enum { OF_A_COMMAND = 0x000f0001 };
+enum { OF_A_COMMAND = 0x000f0001, OF_THE_SLOT = 0xc0 };
 enum { COMMAND_TIMEOUT = 1 << 16, DATA_TIMEOUT = 1 << 20, DATA_CRC = 1 << 21, DMA_ERROR = 1 << 25 };
 enum { SDMA = 0, ADMA2 = 0x10, ADMA2_WIDE = 0x18 }; /* Host Control 1, bits 4 and 3 */
 
@@ -87,7 +87,7 @@ static uint32_t shown(const struct controller *controller)
     if (controller->now < controller->command_at)
         bits &= ~(uint32_t)OF_A_COMMAND;
     if (controller->now < controller->data_at)
-        bits &= OF_A_COMMAND;
+        bits &= OF_A_COMMAND | OF_THE_SLOT;
     return bits | (bits >> 16 ? ERROR : 0);
 }
 
@@ -415,7 +415,8 @@ static int has_way(const struct controller *controller, uint32_t way)
 
 /* Sizes, lines, power, clock, and a command with data wait until no data is under way; several blocks are counted; eight lines and high speed are
    in Capabilities; the port wants data; and while data is under way
-   only a command's bits are cleared, and that the buffer was ready. */
+   only a command's bits are cleared, and that the buffer was ready; of the slot's interrupts none is
+   cleared, or hidden, and they alone are signals. */
 static int is_misuse(const struct controller *controller, unsigned offset, uint32_t value)
 {
     int is_moving = controller->direction != KELIFANDRO_NO_DATA || controller->looks;
@@ -437,7 +438,11 @@ static int is_misuse(const struct controller *controller, unsigned offset, uint3
     case 0x20:
         return controller->direction != KELIFANDRO_WRITE;
     case 0x30:
-        return is_moving && (value & ~(uint32_t)(OF_A_COMMAND | READ_READY | WRITE_READY));
+        return value & OF_THE_SLOT || (is_moving && (value & ~(uint32_t)(OF_A_COMMAND | READ_READY | WRITE_READY)));
+    case 0x34: /* what the slot shows is somebody else's */
+        return is_moving || (controller->enabled & ~value & OF_THE_SLOT);
+    case 0x38:
+        return (value & ~(uint32_t)OF_THE_SLOT) != 0;
     default:
         return 0;
     }
@@ -479,6 +484,9 @@ static void write(void *context, unsigned offset, unsigned size, uint32_t value)
         break;
     case 0x34:
         controller->enabled = value;
+        break;
+    case 0x38:
+        controller->signals = value;
         break;
     case 0x2c:
         controller->clock = (value & 0xfffd) | (value & controller->clock & 1) << 1;

@@ -20,7 +20,7 @@ struct controller {
     uint32_t capabilities; /* 40h: all but what is taken out after controller_begin */
     uint8_t version;       /* FEh: 1 is 2.00, 2 is 3.00 */
     uint8_t control, power;
-    uint32_t sizes, argument, response[4], clock, status, enabled;
+    uint32_t sizes, argument, response[4], clock, status, enabled, signals;
     uint8_t buffer[512];
     size_t at, length; /* in the buffer: what was moved of the block, and its length; 0 no block */
     int direction;     /* enum kelifandro_data */

@@ -406,6 +406,24 @@ static void attempts(void)
     }
 }
 
+/* That a card was inserted or removed is shown and signalled where somebody else wants it, and stays in the status. */
+static void slot_interrupts(enum way way)
+{
+    static const uint32_t named[] = {0, 0x40, 0x80, 0xffffffff};
+    for (size_t i = 0; i < sizeof named / sizeof *named; i++) {
+        begin(0, way);
+        registers.kept_interrupts = named[i];
+        expect(kelifandro_open(&sd) == KELIFANDRO_DONE, "open", i);
+        expect((controller.enabled & 0xc0) == (named[i] & 0xc0) && controller.signals == (named[i] & 0xc0), "interrupts of the slot", i);
+        controller.status |= 0xc0;
+        expect(kelifandro_write(&sd, KELIFANDRO_USER, 7, RUN, data) == KELIFANDRO_DONE, "write, with interrupts of the slot", i);
+        expect(kelifandro_read(&sd, KELIFANDRO_USER, 7, RUN, back) == KELIFANDRO_DONE && memcmp(back, data, RUN * 512) == 0,
+               "read, with interrupts of the slot", i);
+        expect((controller.enabled & 0xc0) == (named[i] & 0xc0) && controller.signals == (named[i] & 0xc0), "interrupts of the slot, kept", i);
+        expect((controller.status & 0xc0) == 0xc0 && controller.misuses == 0, "interrupts of the slot, shown still", i);
+    }
+}
+
 static void lost_ways(void)
 {
     begin(0, HOST);
@@ -713,6 +731,9 @@ int main(int words, char **word)
     one_line(0), one_line(1);
     boards();
     attempts();
+    for (int way = ONE_BLOCK; way <= DMA_BY_WIDE_TABLE; way++)
+        if (has_registers(way))
+            slot_interrupts(way);
     lost_ways();
     clocks();
     beyond_reach();

@@ -16,6 +16,7 @@ const size_t kelifandro_rust_layout[] = {
     PLACE(kelifandro_registers, write_port), PLACE(kelifandro_registers, lend), PLACE(kelifandro_registers, take_back), PLACE(kelifandro_registers, table),
     PLACE(kelifandro_registers, table_size), PLACE(kelifandro_registers, lines), PLACE(kelifandro_registers, is_there),
     PLACE(kelifandro_registers, is_by_words), PLACE(kelifandro_registers, capabilities),
+    PLACE(kelifandro_registers, kept_interrupts),
     sizeof(struct kelifandro_card), PLACE(kelifandro_card, kind), PLACE(kelifandro_card, addressing), PLACE(kelifandro_card, selected),
     PLACE(kelifandro_card, lines), PLACE(kelifandro_card, high_speed), PLACE(kelifandro_card, read_only), PLACE(kelifandro_card, trims),
     PLACE(kelifandro_card, cmd23), PLACE(kelifandro_card, erased_byte), PLACE(kelifandro_card, rca), PLACE(kelifandro_card, cid),

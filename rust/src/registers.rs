@@ -25,6 +25,7 @@ pub struct Board {
     pub(crate) by_words: bool,
     pub(crate) waits: bool,
     pub(crate) capabilities: u32,
+    pub(crate) kept_interrupts: u32,
 }
 
 impl Board {
@@ -36,6 +37,7 @@ impl Board {
             by_words: false,
             waits: false,
             capabilities: 0,
+            kept_interrupts: 0,
         }
     }
 
@@ -60,6 +62,15 @@ impl Board {
     /// [`wait`](Registers::wait) ends once an interrupt comes, and is called.
     pub const fn with_interrupts(mut self) -> Board {
         self.waits = true;
+        self
+    }
+
+    /// Bits 6 and 7: that a card was inserted, or removed, which somebody else waits for.
+    ///
+    /// Opening the card resets the controller, and then sets these in Status Enable and Signal Enable (34h, 38h; sections 2.2.19 and
+    /// 2.2.21), of which the former keeps them; they are never cleared in Interrupt Status. Other bits say nothing.
+    pub const fn with_kept_interrupts(mut self, interrupts: u32) -> Board {
+        self.kept_interrupts = interrupts;
         self
     }
 
@@ -154,7 +165,8 @@ pub trait Registers {
     /// [`board`](Registers::board) says [`with_interrupts`](Board::with_interrupts); otherwise the library looks again and again.
     ///
     /// The status says so, and not the interrupt: a bit may be set before the call, and a line fires for others and for nothing. It clears
-    /// no bit. Signal Enable (38h) is this function's: opening the card writes 0 to it, and nothing else of the library does.
+    /// no bit. Signal Enable (38h) is this function's: opening the card writes those to it that
+    /// [`with_kept_interrupts`](Board::with_kept_interrupts) names, and nothing else of the library writes there.
     fn wait(&mut self, interrupts: u32, microseconds: u32) {
         let _ = interrupts;
         self.pause(microseconds);

@@ -85,6 +85,7 @@ pub struct CRegisters {
     is_there: u8,
     is_by_words: u8,
     capabilities: u32,
+    kept_interrupts: u32,
 }
 
 /// What is known of a card between two calls.
@@ -510,6 +511,7 @@ fn registers_of<R: Registers>(registers: &mut R) -> CRegisters {
         is_there: board.is_there.into(),
         is_by_words: board.by_words.into(),
         capabilities: board.capabilities,
+        kept_interrupts: board.kept_interrupts,
     }
 }
 

@@ -11,7 +11,7 @@ use sdhci_board::{Known, Slot};
 use std::mem::size_of;
 
 // As `struct kelifandro_way` of C.
-const _: () = prove!(size_of::<WayRecord>() == 20);
+const _: () = prove!(size_of::<WayRecord>() == 24);
 
 /// The way to a card, of which C tells with each call.
 #[repr(C)]
@@ -21,6 +21,8 @@ pub struct WayRecord {
     pub stream: i32,
     /// What stands in place of Capabilities (40h), where it isn't 0.
     pub capabilities: u32,
+    /// Registers: bits 6 and 7 are interrupts that somebody else wants.
+    pub kept_interrupts: u32,
     /// How many bytes a table for DMA may have.
     pub table_size: u16,
     /// 0: by a host; anything else: by registers.
@@ -128,6 +130,7 @@ pub fn given_by(way: &WayRecord) -> Given
         is_by_words: way.is_by_words != 0,
         lends: way.lends != 0,
         waits: way.waits != 0,
+        kept: way.kept_interrupts,
         room: way.table_size,
         kinds: kinds_by(way),
         lent: None,

@@ -33,6 +33,8 @@ pub struct CRegisters {
     pub lends: bool,
     /// Whether C waits for interrupts.
     pub waits: bool,
+    /// Interrupts that C keeps for itself.
+    pub kept: u32,
     /// How many bytes a table may have.
     pub room: u16,
     /// The kinds of card that are served.
@@ -126,6 +128,8 @@ impl Registers for CRegisters {
     ghost view = { λ _. unkept_controller };
 
     ghost beside = { λ _. untold };
+
+    ghost kept = { λ s. s.kept };
 
     fn read32(&mut self, offset: u8) -> u32
         ensures reads { Reads unkept_controller offset result unkept_controller }
@@ -262,6 +266,12 @@ impl Registers for CRegisters {
         ensures same { self.new ≡ record self.old { stream = self.new.stream } }
     {
         self.stream.pause(micros);
+    }
+
+    fn kept_interrupts(&self) -> u32
+        ensures { result ≡ self.now.kept }
+    {
+        self.kept
     }
 
     fn can_wait(&self) -> bool

@@ -13,11 +13,10 @@ use Rattle.mmc_host.specs.declared.told.HostCommand.{HostCommand}
 use Rattle.mmc_sdhci.specs.Commands.{Begins, CanMoveBy, Clears, IsIdleFor, IsSet, IsUnderWay, SetsSizes, begun, dma_bit, flags_of, is_clear, mode_of, moves, older_bits, response_flags, sizes_after, sizes_of}
 use Rattle.mmc_sdhci.specs.Controller.{ControllerView, Settled, has_data, is_set}
 use Rattle.mmc_sdhci.specs.CommandLooks.{data_asked, of_a_command}
-use Rattle.mmc_sdhci.specs.DataLooks.{any_bits}
 use Rattle.mmc_sdhci.specs.Moving.{WhereKept}
 use Rattle.mmc_sdhci.specs.declared.mover.Mover.{Mover}
 use Rattle.mmc_sdhci.specs.declared.mover.Mover.TheVariants as By
-use Rattle.mmc_sdhci.specs.Accesses.{IsAllowed, IsAtRest, Writes, can_clear, can_move, is_asked, is_at_rest, is_clean, written}
+use Rattle.mmc_sdhci.specs.Accesses.{IsAllowed, IsAtRest, Writes, can_clear, can_move, is_asked, is_at_rest, is_clean, own_bits, written}
 use Rattle.mmc_sdhci.proofs.Blocks.{both}
 use Rattle.mmc_sdhci.proofs.Glancing.{or_true}
 
@@ -108,6 +107,10 @@ no_bits n = search rules
 cleared_bits : (n : ℕ) → bit_and (bit_and n 0xfff0fffe) 0x000f0001 ≡ 0
 cleared_bits n = and_assoc 0x000f0001 n 0xfff0fffe ∙ no_bits n
 
+-- and of the driver's own, where those are
+own_cleared : (n : ℕ) → bit_and (bit_and n 0xc0) own_bits ≡ 0
+own_cleared n = and_assoc own_bits n 0xc0 ∙ no_bits n
+
 not_one : (n : ℕ) → n ≤ 1 → (n == 1) ≡ false → n ≡ 0
 not_one zero low is = refl
 not_one (suc zero) low is = absurd (false≢true (sym is))
@@ -131,31 +134,32 @@ only_one : (under_way : Data) (command : HostCommand) → IsFree under_way comma
 only_one under_way command (inl none) some = absurd (false≢true (ap (λ (t : Data). has_data t) (sym none) ∙ some))
 only_one under_way command (inr none) some = ap (λ (t : Data). has_data t) none
 
-zero_bits : (n : ℕ) → (n == 0) ≡ true → (bit_and n of_a_command == 0) ≡ true
-zero_bits n is = ap (λ m. bit_and m of_a_command == 0) (eqb-true n 0 is)
+zero_bits : (n : ℕ) → (bit_and n own_bits == 0) ≡ true → (bit_and n of_a_command == 0) ≡ true
+zero_bits n is =
+    ap (λ m. m == 0) (sym (and_assoc of_a_command n own_bits))
+    ∙ ap (λ m. bit_and m of_a_command == 0) (eqb-true (bit_and n own_bits) 0 is)
 
 -- what is clear is clean enough for a command without data
 clean_for_none : (under_way : Data) (view : ControllerView) (has : Bool) → has_data under_way ≡ has → is_clear under_way view ≡ true
     → (bit_and view.status of_a_command == 0) ≡ true
 clean_for_none under_way view true has clear =
-    sym (ap (λ (b : Bool). if b then bit_and view.status of_a_command == 0 else view.status == 0) has) ∙ clear
+    sym (ap (λ (b : Bool). bit_and view.status (if b then of_a_command else own_bits) == 0) has) ∙ clear
 clean_for_none under_way view false has clear =
-    zero_bits view.status
-    (sym (ap (λ (b : Bool). if b then bit_and view.status of_a_command == 0 else view.status == 0) has) ∙ clear)
+    zero_bits view.status (sym (ap (λ (b : Bool). bit_and view.status (if b then of_a_command else own_bits) == 0) has) ∙ clear)
 
 clean_for_data : (under_way : Data) (view : ControllerView) → has_data under_way ≡ false → is_clear under_way view ≡ true
-    → (view.status == 0) ≡ true
+    → (bit_and view.status own_bits == 0) ≡ true
 clean_for_data under_way view has clear =
-    sym (ap (λ (b : Bool). if b then bit_and view.status of_a_command == 0 else view.status == 0) has) ∙ clear
+    sym (ap (λ (b : Bool). bit_and view.status (if b then of_a_command else own_bits) == 0) has) ∙ clear
 
 clean_by : (under_way : Data) (view : ControllerView) (command : HostCommand) (value : ℕ) (has : Bool)
     → has_data command.transfer ≡ has → field 21 21 value ≡ (if has then 1 else 0) → IsFree under_way command
     → is_clear under_way view ≡ true → is_clean view value ≡ true
 clean_by under_way view command value true has is free clear =
-    ap (λ n. if n == 1 then view.status == 0 else bit_and view.status of_a_command == 0) is
+    ap (λ n. bit_and view.status (if n == 1 then own_bits else of_a_command) == 0) is
     ∙ clean_for_data under_way view (only_one under_way command free has) clear
 clean_by under_way view command value false has is free clear =
-    ap (λ n. if n == 1 then view.status == 0 else bit_and view.status of_a_command == 0) is
+    ap (λ n. bit_and view.status (if n == 1 then own_bits else of_a_command) == 0) is
     ∙ clean_for_none under_way view (has_data under_way) refl clear
 
 -- The word of a command.
@@ -428,11 +432,11 @@ sizes_kept v0 transfer none kept =
 -- What is cleared before it.
 
 may_clear_by : (view : ControllerView) (under_way : Data) (has : Bool) → has_data under_way ≡ has → is_none view.running ≡ true
-    → view.transfer ≡ under_way → can_clear view (if has then of_a_command else any_bits) ≡ true
+    → view.transfer ≡ under_way → can_clear view (if has then of_a_command else own_bits) ≡ true
 may_clear_by view under_way true has idle is = ap (λ (b : Bool). b && (not (has_data view.transfer) || true)) idle ∙ or_true (not (has_data view.transfer))
 may_clear_by view under_way false has idle is =
-    ap (λ (b : Bool). b && (not (has_data view.transfer) || (bit_and any_bits 0x000f0031 == any_bits))) idle
-    ∙ ap (λ (b : Bool). not b || (bit_and any_bits 0x000f0031 == any_bits)) (ap (λ (t : Data). has_data t) is ∙ has)
+    ap (λ (b : Bool). b && (not (has_data view.transfer) || false)) idle
+    ∙ ap (λ (b : Bool). not b || false) (ap (λ (t : Data). has_data t) is ∙ has)
 
 pub may_clear : (view : ControllerView) (under_way : Data) (bits : ℕ) → IsAtRest view → IsUnderWay view under_way
     → bits ≡ older_bits under_way → IsAllowed view 0x30 bits
@@ -441,14 +445,14 @@ may_clear view under_way bits rests is bits_are kept =
     ∙ may_clear_by view under_way (has_data under_way) refl (is_running_none view (rests kept)) (is kept)
 
 clears_by : (v0 v1 : ControllerView) (under_way : Data) (has : Bool) → has_data under_way ≡ has
-    → v1 ≡ record v0 { status = bit_and v0.status (0xffffffff - (if has then of_a_command else any_bits)) }
+    → v1 ≡ record v0 { status = bit_and v0.status (0xffffffff - (if has then of_a_command else own_bits)) }
     → is_clear under_way v1 ≡ true
 clears_by v0 v1 under_way true has is =
-    ap (λ (b : Bool). if b then bit_and v1.status of_a_command == 0 else v1.status == 0) has
+    ap (λ (b : Bool). bit_and v1.status (if b then of_a_command else own_bits) == 0) has
     ∙ (ap (λ (v : ControllerView). bit_and v.status of_a_command == 0) is ∙ ap (λ n. n == 0) (cleared_bits v0.status))
 clears_by v0 v1 under_way false has is =
-    ap (λ (b : Bool). if b then bit_and v1.status of_a_command == 0 else v1.status == 0) has
-    ∙ (ap (λ (v : ControllerView). v.status == 0) is ∙ ap (λ n. n == 0) (no_bits v0.status))
+    ap (λ (b : Bool). bit_and v1.status (if b then of_a_command else own_bits) == 0) has
+    ∙ (ap (λ (v : ControllerView). bit_and v.status own_bits == 0) is ∙ ap (λ n. n == 0) (own_cleared v0.status))
 
 pub clears : (v0 v1 : ControllerView) (under_way : Data) (bits : ℕ) → bits ≡ older_bits under_way → Writes v0 0x30 bits v1
     → Clears v0 under_way v1

@@ -13,6 +13,7 @@ pub mod Putting
 pub mod Ranges
 pub mod Reading
 pub mod Sending
+pub mod Showing
 pub mod Telling
 pub mod Waiting
 pub mod Together

@@ -84,17 +84,26 @@ can_put view =
     is_write view.transfer
     && ((view.is_ready || not (is_empty view.outgoing)) && nat_lt (length view.outgoing) 512)
 
+-- Card Insertion and Card Removal (bits 6 and 7 of 30h, 34h and 38h), and all others
+abbrev pub of_the_slot : ℕ → ℕ
+of_the_slot bits = field 7 6 bits
+
+abbrev pub own_bits : ℕ
+own_bits = 0xffffff3f
+
 -- Bits of the interrupt status that may be cleared now: while a command runs none; while data is under way Command Complete and the
 -- errors of a command alone (bits 0 and 16 to 19), which have been judged, and that the buffer was ready (bits 4 and 5), which Present
--- State says too; otherwise all.
+-- State says too; otherwise all. But never that a card was inserted or removed: the driver has no use for it, and somebody else may.
 abbrev pub can_clear : ControllerView → ℕ → Bool
-can_clear view value = is_none view.running && (not (has_data view.transfer) || (bit_and value 0x000f0031 == value))
+can_clear view value =
+    is_none view.running
+    && ((of_the_slot value == 0) && (not (has_data view.transfer) || (bit_and value 0x000f0031 == value)))
 
 -- What an older command or older data left is cleared: all, or, where the command has no data, what is a command's: what is under way
 -- then is dropped by the reset that follows.
 abbrev pub is_clean : ControllerView → ℕ → Bool
 is_clean view value =
-    if field 21 21 value == 1 then view.status == 0 else bit_and view.status of_a_command == 0
+    bit_and view.status (if field 21 21 value == 1 then own_bits else of_a_command) == 0
 
 -- Sizes are set where no data is under way.
 abbrev pub is_idle : ControllerView → Bool
@@ -137,13 +146,17 @@ abbrev pub is_clock : Settings → ℕ → Bool
 is_clock settings value =
     nat_lt value 0x100000 && ((field 2 2 value == 0) || (clock_runs value && (field 15 0 value == settings.clock + 4)))
 
--- The interrupts that are judged are shown, and no others but those of the buffer and of DMA.
-abbrev pub is_shown_set : ℕ → Bool
-is_shown_set value = are_shown value && (bit_and value 0x027f003f == value)
+-- The interrupts that are judged are shown, and no others but those of the buffer, of DMA and of the slot. Of the latter, those that are
+-- shown stay so.
+abbrev pub is_shown_set : ControllerView → ℕ → Bool
+is_shown_set view value =
+    are_shown value
+    && ((bit_and value 0x027f00ff == value)
+    && ((of_the_slot view.settings.shown == 0) || (of_the_slot value == of_the_slot view.settings.shown)))
 
 -- THE RULES for writes of 32 bits, register by register: no others are written. A command is begun at rest, once the card has started,
 -- with all set that it needs, and no old interrupt; no interrupt is cleared that wasn't judged; a word of a block is written where it
--- can be; none raises an interrupt of the processor. SDMA is to stop at multiples of 512 KiB alone (04h, bits 14 to 12 are 111b).
+-- can be; by what the driver sets, only those of the slot raise an interrupt of the processor. SDMA is to stop at multiples of 512 KiB alone (04h, bits 14 to 12 are 111b).
 abbrev pub may_write : ControllerView → ℕ → ℕ → Bool
 may_write view offset value =
     if offset == 0x00 then is_idle view
@@ -154,8 +167,8 @@ may_write view offset value =
     else (if offset == 0x20 then can_put view
     else (if offset == 0x2c then is_idle view && (is_settled view && is_clock view.settings value)
     else (if offset == 0x30 then can_clear view value
-    else (if offset == 0x34 then is_idle view && is_shown_set value
-    else (if offset == 0x38 then value == 0
+    else (if offset == 0x34 then is_idle view && is_shown_set view value
+    else (if offset == 0x38 then bit_and value 0xc0 == value
     else (if offset == 0x58 then is_idle view else (if offset == 0x5c then is_idle view else false))))))))))
 
 abbrev pub IsAllowed : ControllerView → ℕ → ℕ → Type 0
@@ -213,6 +226,7 @@ pub record Shows (old : ControllerView) (offset value : ℕ) (new : ControllerVi
   pub interrupts : offset ≡ 0x30 → Looked old old.running value new
   pub present : offset ≡ 0x24 → new ≡ old
   pub port : offset ≡ 0x20 → Pops old value new
+  pub shown : offset ≡ 0x34 → (value ≡ old.settings.shown) × (new ≡ old)
   pub capabilities : offset ≡ 0x40 → (value ≡ old.built.capabilities) × (new ≡ old)
   pub response : (i : ℕ) → i < 4 → offset ≡ 0x10 + 4 * i → (value ≡ word old.response i) × (new ≡ old)
 

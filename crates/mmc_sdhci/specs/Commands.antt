@@ -14,8 +14,7 @@ use Rattle.mmc_host.specs.declared.told.ResponseFault.{ResponseFault}
 use Rattle.mmc_host.specs.declared.told.ResponseFault.TheVariants as Fault
 use Rattle.mmc_sdhci.specs.Controller.{ControllerView, Running, Settled, Steps}
 use Rattle.mmc_sdhci.specs.CommandLooks.{Dropped, IsShown, Look}
-use Rattle.mmc_sdhci.specs.Accesses.{Drops, can_move, is_at_rest}
-use Rattle.mmc_sdhci.specs.DataLooks.{any_bits}
+use Rattle.mmc_sdhci.specs.Accesses.{Drops, can_move, is_at_rest, own_bits}
 use Rattle.mmc_sdhci.specs.declared.dma.Dma.{Dma}
 use Rattle.mmc_sdhci.specs.declared.dma.Dma.TheVariants as Way
 use Rattle.mmc_sdhci.specs.declared.mover.Mover.{Mover}
@@ -82,14 +81,13 @@ sizes_after sizes transfer = if has_data transfer then sizes_of transfer else si
 abbrev pub SetsSizes : ControllerView → Data → ControllerView → Type 0
 SetsSizes old transfer new = Settled old (new ≡ record old { sizes = sizes_after old.sizes transfer }) new
 
+-- the interrupts that the driver clears before a command: its own, or those of a command alone while data is under way
+abbrev pub older_bits : Data → ℕ
+older_bits under_way = if has_data under_way then of_a_command else own_bits
+
 -- nothing that an older command left is there any more, nor of older data where none is under way
 abbrev pub is_clear : Data → ControllerView → Bool
-is_clear under_way view =
-    if has_data under_way then bit_and view.status of_a_command == 0 else view.status == 0
-
--- the interrupts that the driver clears before a command
-abbrev pub older_bits : Data → ℕ
-older_bits under_way = if has_data under_way then of_a_command else any_bits
+is_clear under_way view = bit_and view.status (older_bits under_way) == 0
 
 abbrev pub Clears : ControllerView → Data → ControllerView → Type 0
 Clears old under_way new =

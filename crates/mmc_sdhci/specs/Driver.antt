@@ -15,8 +15,8 @@ use Rattle.mmc_host.specs.declared.data.Data.{Data}
 use Rattle.mmc_host.specs.declared.told.HostState.{HostState}
 use Rattle.mmc_host.specs.declared.told.Ios.{Ios}
 use Rattle.mmc_sdhci.specs.Beside.{Beside, is_inserted}
-use Rattle.mmc_sdhci.specs.Controller.{ControllerView, IsAtMost, Settled, base_clock, clock_runs, is_set, is_settled, is_still, lines_in}
-use Rattle.mmc_sdhci.specs.Accesses.{is_at_rest, restarted, starting_anew}
+use Rattle.mmc_sdhci.specs.Controller.{ControllerView, IsAtMost, Settled, are_shown, base_clock, clock_runs, is_set, is_settled, is_still, lines_in}
+use Rattle.mmc_sdhci.specs.Accesses.{is_at_rest, of_the_slot, restarted, starting_anew}
 use Rattle.mmc_sdhci.specs.Lent.{nothing_lent}
 use Rattle.mmc_sdhci.specs.Moving.{WhereKept}
 use Rattle.mmc_sdhci.specs.declared.start.StartFault.{StartFault}
@@ -121,24 +121,37 @@ IsReady view =
 abbrev pub IsSteady : ControllerView → Type 0
 IsSteady view = WhereKept view (IsAtEase view × (is_settled view ≡ true))
 
--- a reset: one line at default speed, no power, and the interrupts shown that the driver looks at
+-- a reset: one line at default speed, and no power
 abbrev pub started : ControllerView → ControllerView
-started view =
-    record (restarted view) {
-      settings = record (restarted view).settings { shown = 0x007f0033 };
-      resetting = None;
-    }
+started view = record (restarted view) { resetting = None }
 
-abbrev pub IsStarted : ControllerView → Type 0
-IsStarted view =
+-- The interrupts are shown that the driver looks at, and those of the slot that somebody else wants.
+abbrev pub AreShownFor : ℕ → ℕ → Type 0
+AreShownFor kept shown = (are_shown shown ≡ true) × (of_the_slot shown ≡ of_the_slot kept)
+
+abbrev pub showing : ControllerView → ℕ → ControllerView
+showing view shown = record view { settings = record view.settings { shown = shown } }
+
+abbrev pub IsStarted : ℕ → ControllerView → Type 0
+IsStarted kept view =
     WhereKept view
     ((is_at_rest view ≡ true)
     × ((view.transfer ≡ Data.Nothing)
+    × (AreShownFor kept view.settings.shown
     × (view.settings
-    ≡ record { control = 0; power = 0; clock = 0; timeout = 0; shown = 0x007f0033; stabilizing = None; starting = None })))
+    ≡ record {
+      control = 0;
+      power = 0;
+      clock = 0;
+      timeout = 0;
+      shown = view.settings.shown;
+      stabilizing = None;
+      starting = None;
+    }))))
 
-abbrev pub Restarts : ControllerView → ControllerView → Type 0
-Restarts old new = Settled old (new ≡ started old) new
+abbrev pub Restarts : ℕ → ControllerView → ControllerView → Type 0
+Restarts kept old new =
+    Settled old ((new ≡ showing (started old) new.settings.shown) × AreShownFor kept new.settings.shown) new
 
 -- Why a controller isn't ready: it has no 3.3 V (bit 24 of Capabilities), it doesn't tell its base clock, or, where it has both,
 -- Present State showed no card in the slot when it was read last.

@@ -10,9 +10,10 @@ use Rattle.mmc_host.specs.declared.told.Heard.{Heard}
 use Rattle.mmc_host.specs.declared.told.HostCommand.{HostCommand}
 use Rattle.mmc_host.specs.declared.told.HostState.{HostState}
 use Rattle.mmc_host.specs.declared.told.ResponseFault.{ResponseFault}
-use Rattle.mmc_sdhci.specs.Accesses.{is_at_rest, is_dma_set}
+use Rattle.mmc_sdhci.specs.Accesses.{is_at_rest, is_dma_set, is_idle}
 use Rattle.mmc_sdhci.specs.Commands.{KeepsLent, Sends}
-use Rattle.mmc_sdhci.specs.Controller.{ControllerView, Settled, has_data, is_set, lines_in, seen}
+use Rattle.mmc_sdhci.specs.Controller.{ControllerView, Settled, are_shown, has_data, is_set, lines_in, seen}
+use Rattle.mmc_sdhci.specs.Driver.{showing}
 use Rattle.mmc_sdhci.specs.Lent.{crosses_none, is_lent_for, size_of}
 use Rattle.mmc_sdhci.specs.declared.dma.Dma.{Dma}
 use Rattle.mmc_sdhci.specs.declared.dma.Dma.TheVariants as Way
@@ -48,6 +49,16 @@ pub record Prepared (old new : ControllerView) : Type 0 where
 
 abbrev pub Prepares : ControllerView → ControllerView → Type 0
 Prepares old new = Settled old (Prepared old new) new
+
+-- errors of ADMA2 are shown too, and nothing else is changed
+abbrev pub ShowsErrors : ControllerView → ControllerView → Type 0
+ShowsErrors old new =
+    Settled old
+    ((new ≡ showing old new.settings.shown) × ((are_shown new.settings.shown ≡ true) × (field 25 25 new.settings.shown ≡ 1))) new
+
+-- nothing runs, and no data is under way
+abbrev pub IsIdle : ControllerView → Type 0
+IsIdle view = view.is_kept ≡ true → is_idle view ≡ true
 
 -- A table of what is lent stands at this bus address.
 abbrev pub IsTabled : ControllerView → Dma → ℕ → Type 0

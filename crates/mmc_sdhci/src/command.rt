@@ -20,7 +20,8 @@ use crate::settling::{pause, settle_reset};
 use mmc_frame::commands::STOP_TRANSMISSION;
 use mmc_host::{Data, Heard, HostCommand, Response, ResponseFault};
 
-const ALL: u32 = 0xffff_ffff;
+// All but Card Insertion and Card Removal.
+const OWN: u32 = 0xffff_ff3f;
 
 // Command Complete, and the errors of a command.
 const OF_A_COMMAND: u32 = 0x000f_0001;
@@ -117,14 +118,14 @@ fn sizes_of(transfer: Data) -> u32
     }
 }
 
-// The interrupts that are cleared before a command: all, or where data is under way those of a command.
+// The interrupts that are cleared before a command: all of the driver's, or where data is under way those of a command.
 fn older_bits(under_way: Data) -> u32
     ensures { result ≡ older_bits under_way }
 {
     if has_data(under_way) {
         OF_A_COMMAND
     } else {
-        ALL
+        OWN
     }
 }
 

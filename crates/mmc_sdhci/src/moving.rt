@@ -6,7 +6,7 @@ ghost use Rattle.mmc_sdhci.specs.Beside.{HasWaited, time_of};
 ghost use Rattle.mmc_sdhci.specs.Commands.{RestsButMoves};
 ghost use Rattle.mmc_sdhci.specs.Controller.{lines_in};
 ghost use Rattle.mmc_sdhci.specs.DataLooks.{is_complete};
-ghost use Rattle.mmc_sdhci.specs.Finishing.{AreCapabilities, Finishes, IsFreeOf, IsLent, IsMoving, IsTabled, Prepares, Reaches, WatchesMoving};
+ghost use Rattle.mmc_sdhci.specs.Finishing.{AreCapabilities, Finishes, IsFreeOf, IsIdle, IsLent, IsMoving, IsTabled, Prepares, Reaches, ShowsErrors, WatchesMoving};
 ghost use Rattle.mmc_sdhci.specs.Lent.{size_of};
 ghost use Rattle.mmc_sdhci.specs.declared.dma.Dma.TheVariants.{Sdma};
 ghost use Rattle.mmc_sdhci.specs.Lending.{TakesBack};
@@ -20,7 +20,7 @@ use crate::offsets::{
 };
 use crate::registers::Registers;
 use crate::settling::pause;
-use crate::start::{SHOWN, control_of};
+use crate::start::{SHOWN, control_of, of_the_slot};
 use crate::tables::Table;
 use crate::watching::{ERRORS, FEW_LOOKS, FIRST_LOOKS, between};
 use mmc_bus::BlocksMut;
@@ -54,6 +54,18 @@ fn point_at_memory<R: Registers>(registers: &mut R, lines: Lines, start: u32)
     registers.write8(CONTROL, control_of(lines, Some(Dma::Sdma)));
 }
 
+// Has errors of ADMA2 shown too, and of the slot what was shown.
+fn show_dma_errors<R: Registers>(registers: &mut R)
+    requires { IsIdle (R.view registers.old) }
+    ensures { ShowsErrors (R.view registers.old) (R.view registers.new) }
+{
+    let shown = registers.read32(SHOWN_INTERRUPTS);
+    let wanted = SHOWN + DMA_ERROR + of_the_slot(shown);
+    if shown != wanted {
+        registers.write32(SHOWN_INTERRUPTS, wanted);
+    }
+}
+
 // Selects ADMA2, beside the lines that are set, with the table that was lent, at this bus address.
 fn point_at_table<R: Registers>(registers: &mut R, lines: Lines, dma: Dma, table: u64)
     requires free { IsFreeOf (R.view registers.old) }
@@ -64,7 +76,7 @@ fn point_at_table<R: Registers>(registers: &mut R, lines: Lines, dma: Dma, table
     ensures { Prepares (R.view registers.old) (R.view registers.new) }
 {
     registers.write8(CONTROL, control_of(lines, Some(dma)));
-    registers.write32(SHOWN_INTERRUPTS, SHOWN + DMA_ERROR);
+    show_dma_errors(registers);
     registers.write32(ADMA_ADDRESS, (table % 0x1_0000_0000) as u32);
     registers.write32(ADMA_UPPER, (table / 0x1_0000_0000) as u32);
 }

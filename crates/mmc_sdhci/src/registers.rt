@@ -1,4 +1,4 @@
-ghost use Rattle.std.specs.Prelude.{◌≡◌, ◌+◌, ◌/◌, ◌<◌, ◌^◌, length};
+ghost use Rattle.std.specs.Prelude.{◌≡◌, ◌+◌, ◌/◌, ◌<◌, ◌^◌, length, ℕ};
 ghost use Rattle.mmc_sdhci.specs.Controller.{ControllerView, Settled};
 ghost use Rattle.mmc_sdhci.specs.Beside.{Beside, IsBeside, WaitsFor, read_on, waited_on, write_on};
 ghost use Rattle.mmc_sdhci.specs.Lending.{Fits, FitsTable, IsUnmoved, Lends, LendsTable, NamesLent, TakesPlace, TakesPlaces, unlent};
@@ -17,6 +17,9 @@ pub trait Registers {
 
     // And of whoever drives it: how long it has waited, and what Present State showed.
     ghost beside: { Self → Beside };
+
+    // And which interrupts of the slot somebody else wants.
+    ghost kept: { Self → ℕ };
 
     /// Reads 32 bits.
     fn read32(&mut self, offset: u8) -> u32
@@ -136,6 +139,12 @@ pub trait Registers {
     fn pause(&mut self, micros: u32)
         ensures passes { Passes (view self.old) micros (view self.new) }
         ensures aside { IsBeside (view self.new) (waited_on (beside self.old) micros) (beside self.new) };
+
+    /// Interrupts that somebody else wants: that a card was inserted, or removed (bits 6 and 7 of 30h, 34h and 38h; sections 2.2.17, 2.2.19
+    /// and 2.2.21). Once the controller was reset they are shown, and raise an interrupt of the processor; they aren't cleared. Other bits
+    /// say nothing.
+    fn kept_interrupts(&self) -> u32
+        ensures { result ≡ kept self.now };
 
     /// Whether `wait` ends once an interrupt comes. Where it doesn't, the driver looks again and again, with short pauses in between.
     fn can_wait(&self) -> bool {

@@ -2,7 +2,7 @@ ghost use Rattle.std.specs.Prelude.{◌<◌, ◌≡◌, IfErr, IfOk, true};
 ghost use Rattle.mmc_host.specs.HostStates.{IsBetween, lines_of};
 ghost use Rattle.mmc_host.specs.Hosts.{IsUnused, Rests};
 ghost use Rattle.mmc_sdhci.specs.Controller.{IsAtMost, Settled, has_data, limits_of, lines_in};
-ghost use Rattle.mmc_sdhci.specs.Accesses.{IsAtRest, Stays};
+ghost use Rattle.mmc_sdhci.specs.Accesses.{IsAtRest, Stays, of_the_slot};
 ghost use Rattle.mmc_sdhci.specs.Beside.{is_inserted, is_protected};
 ghost use Rattle.mmc_sdhci.specs.Commands.{IsSet};
 ghost use Rattle.mmc_sdhci.specs.Driver.{IsBaseClock, IsLost, IsNew, IsReady, IsSameCard, IsUnready, are_words, clock_limit, host_over, told_so};
@@ -88,6 +88,8 @@ impl<R: Registers> Sdhci<R> {
         ensures limits { IfOk result (λ host. WhereKept (R.view host.registers)
             (host.limits ≡ limits_of (R.view host.registers).built)) }
         ensures unused { IfOk result (λ host. IsUnused (host_over (R.view host.registers) (told_so host.state host.told) host.limits)) }
+        ensures kept { IfOk result (λ host. WhereKept (R.view host.registers)
+            (of_the_slot (R.view host.registers).settings.shown ≡ of_the_slot (R.kept registers))) }
         ensures unready { IfErr result (λ failed. IsUnready failed.1 (R.view failed.0) (R.beside failed.0)) }
         ensures unused_again { IfErr result (λ failed. IsNew (R.view failed.0)) }
         ensures left { IfErr result (λ failed. Settled (R.view registers)

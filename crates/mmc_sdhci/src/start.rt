@@ -1,11 +1,11 @@
 // How a controller begins.
-ghost use Rattle.std.specs.Prelude.{◌+◌, ◌<◌, ◌≡◌, ◌≤◌, bit_and, false};
+ghost use Rattle.std.specs.Prelude.{◌*◌, ◌+◌, ◌<◌, ◌≡◌, ◌≤◌, bit_and, false};
 ghost use Rattle.mmc_card.specs.declared.exchange.Width.TheVariants as Width;
 ghost use Rattle.mmc_frame.specs.Field.{field};
 ghost use Rattle.mmc_sdhci.specs.Commands.{selection};
 ghost use Rattle.mmc_sdhci.specs.Controller.{Settled, limits_in, limits_within, lines_in};
 ghost use Rattle.mmc_host.specs.declared.data.Data.TheVariants.{Nothing};
-ghost use Rattle.mmc_sdhci.specs.Accesses.{IsAtRest, IsStill, Stays};
+ghost use Rattle.mmc_sdhci.specs.Accesses.{IsAtRest, IsStill, Stays, of_the_slot};
 ghost use Rattle.mmc_sdhci.specs.Beside.{HasWaited, is_inserted, is_sure};
 ghost use Rattle.mmc_sdhci.specs.Driver.{IsBaseClock, IsNew, IsOff, IsSameCard, IsStarted, Restarts};
 ghost use Rattle.mmc_sdhci.specs.Moving.{WhereKept};
@@ -43,6 +43,14 @@ const OFF_TIME: u32 = 10_000;
 
 /// Command Complete, Transfer Complete, Buffer Write Ready and Buffer Read Ready, and all errors of command and data.
 pub const SHOWN: u32 = 0x007f_0033;
+
+/// Card Insertion and Card Removal, of these interrupts.
+pub fn of_the_slot(interrupts: u32) -> u32
+    ensures bits { result ≡ 0x40 * of_the_slot interrupts }
+    ensures small { result ≤ 0xc0 }
+{
+    interrupts / 0x40 % 4 * 0x40
+}
 
 /// The limits of a controller, by Capabilities. It always has four lines.
 pub fn limits_in(capabilities: u32) -> Lines
@@ -107,27 +115,30 @@ fn power_down<R: Registers>(registers: &mut R)
     pause(registers, OFF_TIME);
 }
 
-// Resets the controller, and has it show the interrupts that the driver looks at. None reaches the processor.
-fn restart<R: Registers>(registers: &mut R)
+// Resets the controller, and has it show the interrupts that the driver looks at, and those of the slot that somebody else wants. The
+// latter alone reach the processor.
+fn restart<R: Registers>(registers: &mut R, kept: u32)
     requires { IsOff (R.view registers.old) }
-    ensures { Restarts (R.view registers.old) (R.view registers.new) }
+    ensures { Restarts kept (R.view registers.old) (R.view registers.new) }
 {
+    let kept = of_the_slot(kept);
     registers.write8(RESET, 1);
     settle_reset(registers);
-    registers.write32(SHOWN_INTERRUPTS, SHOWN);
-    registers.write32(SIGNALS, 0);
+    registers.write32(SHOWN_INTERRUPTS, SHOWN + kept);
+    registers.write32(SIGNALS, kept);
 }
 
 /// Begins anew, whatever the controller was used for: what is left of that is lost, the card has had no power for long enough, and the
 /// controller is reset.
 pub fn start_anew<R: Registers>(registers: &mut R)
     requires { IsNew (R.view registers.old) }
-    ensures started { IsStarted (R.view registers.new) }
+    ensures started { IsStarted (R.kept registers.old) (R.view registers.new) }
     ensures same { Settled (R.view registers.old) (IsSameCard (R.view registers.old) (R.view registers.new)) (R.view registers.new) }
 {
+    let kept = registers.kept_interrupts();
     lose_all(registers);
     power_down(registers);
-    restart(registers);
+    restart(registers, kept);
 }
 
 /// Whether a card is inserted, once the controller is sure of it, or after 100 ms.

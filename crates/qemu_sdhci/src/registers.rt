@@ -69,6 +69,8 @@ impl Registers for QemuRegisters {
 
     ghost beside = { λ _. untold };
 
+    ghost kept = { λ _. 0 };
+
     fn read32(&mut self, offset: u8) -> u32 {
         self.conversation.read(b"readl", BASE + u32::from(offset))
     }
@@ -132,6 +134,10 @@ impl Registers for QemuRegisters {
 
     // QEMU's controller takes no time.
     fn pause(&mut self, _micros: u32) {}
+
+    fn kept_interrupts(&self) -> u32 {
+        0
+    }
 }
 
 impl Words for QemuRegisters {

@@ -40,6 +40,8 @@ impl<W: Words> Registers for Board<W> {
 
     ghost beside = { λ _. untold };
 
+    ghost kept = { λ _. 0 };
+
     fn read32(&mut self, offset: u8) -> u32
         ensures reads { Tells (ReadsWord self.old.known offset result) (W.past self.old.words) (W.past self.new.words) }
         ensures same { self.new.known ≡ self.old.known }
@@ -85,5 +87,9 @@ impl<W: Words> Registers for Board<W> {
         ensures same { self.new.known ≡ self.old.known }
     {
         self.words.pause(micros);
+    }
+
+    fn kept_interrupts(&self) -> u32 {
+        0
     }
 }

@@ -87,6 +87,8 @@ impl<R: Registers, S: HasRegisterStory> Registers for StoryRegisters<R, S> {
 
     ghost beside = { λ s. beside_of s.diary.past };
 
+    ghost kept = { λ s. R.kept s.registers };
+
     fn read32(&mut self, offset: u8) -> u32 {
         let value = self.registers.read32(offset);
         self.note(Note::Read32 { offset, value });
@@ -160,6 +162,10 @@ impl<R: Registers, S: HasRegisterStory> Registers for StoryRegisters<R, S> {
     fn pause(&mut self, micros: u32) {
         self.registers.pause(micros);
         self.note(Note::Pause { micros });
+    }
+
+    fn kept_interrupts(&self) -> u32 {
+        self.registers.kept_interrupts()
     }
 
     fn can_wait(&self) -> bool {

@@ -19,6 +19,8 @@ impl Registers for Hasty {
 
     ghost beside = { λ _. untold };
 
+    ghost kept = { λ _. 0 };
+
     fn read32(&mut self, offset: u8) -> u32 {
         self.model.read32(offset)
     }
@@ -53,5 +55,9 @@ impl Registers for Hasty {
 
     fn pause(&mut self, micros: u32) {
         self.model.pause(micros.min(self.longest));
+    }
+
+    fn kept_interrupts(&self) -> u32 {
+        0
     }
 }

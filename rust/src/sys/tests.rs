@@ -15,7 +15,7 @@ extern "C" {
 }
 
 #[rustfmt::skip]
-const LAYOUT: [usize; 100] = [
+const LAYOUT: [usize; 101] = [
     size_of::<CCommand>(), offset_of!(CCommand, response), offset_of!(CCommand, data),
     offset_of!(CCommand, argument), offset_of!(CCommand, block_length), offset_of!(CCommand, blocks),
     size_of::<CMoved>(), offset_of!(CMoved, failed),
@@ -28,6 +28,7 @@ const LAYOUT: [usize; 100] = [
     offset_of!(CRegisters, lend), offset_of!(CRegisters, take_back), offset_of!(CRegisters, table),
     offset_of!(CRegisters, table_size), offset_of!(CRegisters, lines), offset_of!(CRegisters, is_there),
     offset_of!(CRegisters, is_by_words), offset_of!(CRegisters, capabilities),
+    offset_of!(CRegisters, kept_interrupts),
     size_of::<CCard>(), offset_of!(CCard, kind), offset_of!(CCard, addressing), offset_of!(CCard, selected),
     offset_of!(CCard, lines), offset_of!(CCard, high_speed), offset_of!(CCard, read_only), offset_of!(CCard, trims),
     offset_of!(CCard, cmd23), offset_of!(CCard, erased_byte), offset_of!(CCard, rca), offset_of!(CCard, cid),
