@@ -80,6 +80,7 @@ APART static struct kelifandro_way way_of(const struct kelifandro *kelifandro, c
         way.is_by_words = registers->is_by_words;
         way.capabilities = registers->capabilities;
         way.lends = registers->lend != 0;
+        way.waits = registers->wait != 0;
         way.table_size = (uint16_t)(registers->table_size < LONGEST_TABLE ? registers->table_size : LONGEST_TABLE);
     }
 #ifdef KELIFANDRO_WITHOUT_SD
@@ -212,6 +213,9 @@ APART static void tell_registers(struct kelifandro_call *call, const struct keli
     switch (record[0]) {
     case KELIFANDRO_PAUSE:
         registers->pause(registers->context, word_at(record + 1));
+        break;
+    case KELIFANDRO_WAIT:
+        registers->wait(registers->context, word_at(record + 1), word_at(record + 5));
         break;
     case KELIFANDRO_AFTER:
         call->memory = (uint8_t *)call->memory + (size_t)word_at(record + 1) * BLOCK;
@@ -369,6 +373,8 @@ ON_STACK APART static int32_t serve(struct kelifandro *kelifandro, struct kelifa
         *done = 0;
     if (!is_given(kelifandro))
         return KELIFANDRO_NO_HOST;
+    if (!asked.attempts)
+        asked.attempts = kelifandro->attempts;
     way = begin_call(kelifandro, &at, bytes, blocks);
     memory = kelifandro->call.memory;
     if (length == LONG)
@@ -380,9 +386,14 @@ ON_STACK APART static int32_t serve(struct kelifandro *kelifandro, struct kelifa
     return end_call(kelifandro, result);
 }
 
+int32_t kelifandro_serve(struct kelifandro *kelifandro, const struct kelifandro_asked *asked, const void *bytes)
+{
+    return serve(kelifandro, *asked, bytes, SHORT, 0);
+}
+
 static struct kelifandro_asked asked_of(enum kelifandro_kind kind, enum kelifandro_part part, uint64_t start, uint64_t count)
 {
-    struct kelifandro_asked asked = {start, count, (uint32_t)part, (uint32_t)kind};
+    struct kelifandro_asked asked = {start, count, (uint32_t)part, (uint16_t)kind, 0};
     return asked;
 }
 

@@ -51,7 +51,7 @@ enum kelifandro_result {
     KELIFANDRO_NOT_ERASABLE = -6,
     /* Neither a host nor registers are given. */
     KELIFANDRO_NO_HOST = -7,
-    /* Four attempts have failed, by the cause that is named. Each sector of a write, an erase or a trim is old or new. The card stays
+    /* All attempts have failed, four where `attempts` doesn't say, by the cause that is named. Each sector of a write, an erase or a trim is old or new. The card stays
        open: the next request settles it first, or resets it; RECOVERY says that the last attempt couldn't even settle it. */
     KELIFANDRO_FAILED_ANSWER = -10,
     KELIFANDRO_FAILED_DATA = -11,
@@ -190,8 +190,16 @@ struct kelifandro_registers {
     void (*write)(void *context, unsigned offset, unsigned size, uint32_t value);
     /* Waits so long at least. While a block or the end of a write is waited for it is asked for a microsecond a thousand times, and
        then for 50, ten thousand times at most, and while DMA moves all blocks two hundred thousand times; while the card is busy for
-       10, as often as the look takes. So one that takes a tick of a clock for each makes these waits as much longer. */
+       10, as often as the look takes. So one that takes a tick of a clock for each makes these waits as much longer. With `wait` it is
+       asked for once or twice before each, and while the card is busy for a quarter of the time that this has taken so far, from 10 to
+       1,000 microseconds. */
     void (*pause)(void *context, uint32_t microseconds);
+    /* May be 0. Returns once one of these bits of Interrupt Status is set (30h, 32 bits, errors in the upper half; section 2.2.17 and
+       2.2.18), or so many microseconds are over, and no sooner: an operating system's processor has other work meanwhile. The status says
+       so, and not the interrupt: a bit may be set before the call, and a line fires for others and for nothing. It clears no bit, and no
+       other function here may wait for it. Signal Enable (38h) is this function's: opening the card writes 0 to it, and nothing else of the
+       library does. Without it the library looks again and again. docs/PORTING.md has one. */
+    void (*wait)(void *context, uint32_t interrupts, uint32_t microseconds);
     /* May be 0. So many words through the Buffer Data Port (20h), the lowest byte of a word first in memory: as readsl and writesl. */
     void (*read_port)(void *context, void *bytes, size_t words);
     void (*write_port)(void *context, const void *bytes, size_t words);
@@ -265,7 +273,7 @@ enum kelifandro_kind { KELIFANDRO_READS, KELIFANDRO_WRITES, KELIFANDRO_ERASES, K
    it is there. To settle a card is to end what runs, set the length of blocks again, and ask until its status is clean, once more where
    the response to CMD12 or CMD13 is lost; where that fails it is reset and identified anew, in eight rounds at most. */
 struct kelifandro_healed {
-    uint64_t attempts; /* at requests, four at most each, with success or without */
+    uint64_t attempts; /* at requests, with success or without */
     /* How many of them failed: a response wasn't heard; a block was bad, missing or rejected; a status showed an error; the card was busy
        for too long; the card couldn't be settled. */
     uint64_t by_answer, by_data, by_status, by_busy, by_recovery;
@@ -295,6 +303,8 @@ struct kelifandro {
     uint8_t scr[8];
     /* May be 0. 512 bytes for the EXT_CSD of an eMMC device, to which it is copied as it came (JESD84-B51, section 7.4); 0 of an SD card. */
     uint8_t *ext_csd;
+    /* How many attempts a request has at most, each of which may fail: 0 is four. After each that fails the card is settled. */
+    uint16_t attempts;
     /* 1 once the card was reset and identified anew within a call after opening: its registers said that it is the same card, and who
        keeps blocks of it elsewhere and can't rely on that drops them, and writes 0 here. */
     uint8_t was_reset;

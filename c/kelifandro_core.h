@@ -7,12 +7,12 @@
 
 /* The way to a card (crates/c_host/src/given.rt). `stream` is a number of the caller's choice, which comes back with each record of the
    call. `by` is 0 for a host, which has so many lines, and high speed, and switches the card's power, or not; else registers, of which one
-   line alone is wired or more, with what a board knows in place of the controller, whether memory is lent, and how many bytes a table may
-   have. Without a kind of card none of that kind is ever asked whether it is ready. */
+   line alone is wired or more, with what a board knows in place of the controller, whether memory is lent, how many bytes a table may
+   have, and whether interrupts are waited for. Without a kind of card none of that kind is ever asked whether it is ready. */
 struct kelifandro_way {
     uint32_t stream, capabilities;
     uint16_t table_size;
-    uint8_t by, lines, high_speed, is_there, is_by_words, lends, switches_power, without_sd, without_mmc;
+    uint8_t by, lines, high_speed, is_there, is_by_words, lends, waits, switches_power, without_sd, without_mmc;
 };
 
 /* Of kelifandro.c. The library puts a record of an operation, or a block, and gets what came of it: both answer how many bytes. */
@@ -34,16 +34,18 @@ enum kelifandro_record {
     KELIFANDRO_LEND = 14,
     KELIFANDRO_TAKE_BACK = 17,
     KELIFANDRO_LEND_TABLE,
+    KELIFANDRO_WAIT,
     /* a line of a table begins with its attributes: one of several, and the last */
     KELIFANDRO_LINE = 0x21,
     KELIFANDRO_LAST_LINE = 0x23
 };
 
 /* A request (crates/kelifandro/src/asked.rt): what is done with so many sectors of a partition, from this one on. `kind` is an enum
-   kelifandro_kind. */
+   kelifandro_kind; `attempts` are the most that it has, and 0 is four. */
 struct kelifandro_asked {
     uint64_t start, count;
-    uint32_t part, kind;
+    uint32_t part;
+    uint16_t kind, attempts;
 };
 
 /* Of the library: `way` is a struct kelifandro_way, `card` a struct kelifandro_card, `healed` a struct kelifandro_healed, `asked` a struct
@@ -61,8 +63,8 @@ void kelifandro_close_by(const void *way);
    submit: the refusal by what is known of the card, or KELIFANDRO_FULL; or KELIFANDRO_WAITING, and then the request waits by the ticket
    that `next` was, and `next` is one more. Others may have changed their slots.
    cancel: KELIFANDRO_DONE, and then the request waits no longer; KELIFANDRO_IN_SERVICE; or KELIFANDRO_UNKNOWN.
-   start: 1 where requests have gone into service, and then `asked` is what serves all of them at once; or 0 where none waits, and then it
-   is as it was. At most so many sectors are joined.
+   start: 1 where requests have gone into service, and then `asked` is what serves all of them at once, several in two attempts, and one
+   alone in 0; or 0 where none waits, and then it is as it was. At most so many sectors are joined.
    conclude: what is in service is done, or has failed: 1 where it is answered by that and has left its slots, 0 where it is to be served
    again, one request at a time. */
 int32_t kelifandro_submit_by(const void *card, void *slots, uint64_t count, void *next, const void *asked, uint32_t client, uint64_t whose);
@@ -71,6 +73,10 @@ uint8_t kelifandro_start_by(void *slots, uint64_t count, uint64_t most, void *as
 uint8_t kelifandro_conclude_by(void *slots, uint64_t count, uint8_t is_done);
 
 #ifdef KELIFANDRO_H
+/* Of kelifandro.c: serves a request with this memory, as kelifandro_read and the others; in as many attempts as the card's owner says where
+   it says 0. */
+int32_t kelifandro_serve(struct kelifandro *kelifandro, const struct kelifandro_asked *asked, const void *bytes);
+
 /* The library knows these structs by their places (crates/mmc_record/src/record.rt, crates/mmc_recovery/src/healed.rt), the lowest byte of
    a number first. An array of -1 is refused on any processor where that isn't so. */
 #define KELIFANDRO_IS_SO(name, is_so) typedef char kelifandro_##name##_is_there[(is_so) ? 1 : -1]
@@ -92,6 +98,7 @@ KELIFANDRO_IS_SO(resets, offsetof(struct kelifandro_healed, resets) == 56);
 KELIFANDRO_IS_SO(healed, sizeof(struct kelifandro_healed) == 64);
 KELIFANDRO_IS_SO(part, sizeof(enum kelifandro_part) == 4);
 KELIFANDRO_IS_SO(way, sizeof(struct kelifandro_way) == 20);
+KELIFANDRO_IS_SO(attempts, offsetof(struct kelifandro_asked, attempts) == 22);
 KELIFANDRO_IS_SO(asked, sizeof(struct kelifandro_asked) == 24);
 #ifdef KELIFANDRO_QUEUE_H
 KELIFANDRO_IS_SO(whose, offsetof(struct kelifandro_slot, whose) == 8);

@@ -81,7 +81,7 @@ static int is_unanswered(const struct kelifandro_queue *queue, const struct keli
 /* Lets the request wait by this ticket, or says why not. */
 static int32_t accept(struct kelifandro_queue *queue, const struct kelifandro_request *request)
 {
-    struct kelifandro_asked asked = {request->start, request->count, request->part, request->kind};
+    struct kelifandro_asked asked = {request->start, request->count, request->part, request->kind, 0};
     if (!queue->is_open)
         return KELIFANDRO_NOT_OPEN;
     if (request->kind > LAST_KIND)
@@ -154,36 +154,20 @@ static void gather(const struct kelifandro_queue *queue, uint64_t start, size_t 
     }
 }
 
-/* Reads or writes what members have asked for: by the memory of the one that there is, or through that of all. */
-static int32_t move(const struct kelifandro_queue *queue, const struct kelifandro_asked *asked, size_t members)
-{
-    enum kelifandro_part part = (enum kelifandro_part)asked->part;
-    size_t count = (size_t)asked->count, gathered = members > 1 ? members : 0;
-    void *memory = gathered ? queue->gather : queue->members[0].request->memory;
-    int32_t result;
-#ifndef KELIFANDRO_WITHOUT_WRITE
-    if (asked->kind == KELIFANDRO_WRITES) {
-        gather(queue, asked->start, gathered, 1);
-        return kelifandro_write(queue->card, part, asked->start, count, memory);
-    }
-#endif
-    result = kelifandro_read(queue->card, part, asked->start, count, memory);
-    if (result == KELIFANDRO_DONE)
-        gather(queue, asked->start, gathered, 0);
-    return result;
-}
-
-/* Makes one request for all in service. */
+/* Makes one request for all in service: by the memory of the one that there is, or through that of all. */
 static int32_t serve(const struct kelifandro_queue *queue, const struct kelifandro_asked *asked, size_t members)
 {
-#if !defined KELIFANDRO_WITHOUT_WRITE && !defined KELIFANDRO_WITHOUT_ERASE
-    enum kelifandro_part part = (enum kelifandro_part)asked->part;
-    if (asked->kind == KELIFANDRO_ERASES)
-        return kelifandro_erase(queue->card, part, asked->start, asked->count);
-    if (asked->kind == KELIFANDRO_TRIMS)
-        return kelifandro_trim(queue->card, part, asked->start, asked->count);
-#endif
-    return move(queue, asked, members);
+    size_t gathered = members > 1 ? members : 0;
+    void *memory = gathered ? queue->gather : queue->members[0].request->memory;
+    int32_t result;
+    if (asked->kind > LAST_KIND)
+        return KELIFANDRO_KIND;
+    if (asked->kind == KELIFANDRO_WRITES)
+        gather(queue, asked->start, gathered, 1);
+    result = kelifandro_serve(queue->card, asked, memory);
+    if (asked->kind == KELIFANDRO_READS && result == KELIFANDRO_DONE)
+        gather(queue, asked->start, gathered, 0);
+    return result;
 }
 
 static size_t unanswered(const struct kelifandro_queue *queue)

@@ -106,8 +106,8 @@ int32_t kelifandro_cancel(struct kelifandro_request *request);
 /* Serves the oldest request, and with it those neighbours that may join it: of its partition and kind, reads or writes, 16 requests and
    1,024 sectors at most, none of which passes an earlier request that it conflicts with. It makes one request of kelifandro.h for all of
    them, and answers each by its result, in order of ticket: DONE, or FAILED_ANSWER to FAILED_RECOVERY (or a refusal, where somebody
-   else has closed the card). Where several have failed, after the four attempts that a request has, they have no answer yet: one after
-   the other is served alone in the turns that follow, before anything else, so none fails for its neighbours.
+   else has closed the card). Where several have failed, after two attempts, they have no answer yet: one after the other is
+   served alone in the turns that follow, in as many attempts as the card has, before anything else, so none fails for its neighbours.
 
    It tells how many requests are without an answer when it returns, those among them that `answered` has submitted: 0, where nothing is
    left to do, or the queue isn't open or null. Called by the worker, where it may wait as long as that request takes, so by no interrupt.

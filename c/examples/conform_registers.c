@@ -6,7 +6,7 @@
 
 /* Of the registers, of Capabilities and of Interrupt Status (SD Host Controller Simplified Specification 3.00, section 2.2). */
 enum { PORT = 0x20, COMMAND = 0x0c, HOST_CONTROL = 0x28, POWER_CONTROL = 0x29, INTERRUPT_STATUS = 0x30, CAPABILITIES = 0x40 };
-enum { HAS_ADMA2 = 1 << 19, HAS_SDMA = 1 << 22, COMMAND_COMPLETE = 1, ERROR_INTERRUPT = 1 << 15, MARK = 0x5c };
+enum { HAS_ADMA2 = 1 << 19, HAS_SDMA = 1 << 22, COMMAND_COMPLETE = 1, ERROR_INTERRUPT = 1 << 15, ALL_SHOWN = 0x007f0033, MARK = 0x5c };
 
 static const char GIVEN[] = "read, write and pause are given, and lend and take_back both or neither";
 static const char BESIDE[] = "A write of one byte leaves the bytes beside it as they are";
@@ -14,6 +14,7 @@ static const char ANEW[] = "A register is read anew each time, from memory that 
 static const char ADDRESS[] = "lend answers a bus address that is a multiple of 4, or 0";
 static const char TABLE[] = "The table of ADMA2 is at a bus address that is a multiple of 8, and within 32 bits where the memory is";
 static const char KEPT[] = "lend and take_back change nothing in memory that a controller reads";
+static const char CLEARED[] = "wait leaves the bits of Interrupt Status (30h) that are set";
 static const char LENGTH[] = "read_port takes so many words as it is asked for, and no more";
 
 enum way { BY_TABLE, BY_ADDRESS, BY_PORT, BY_WORDS, WAYS };
@@ -52,6 +53,18 @@ static void pause_for(void *context, uint32_t microseconds)
     uint64_t from = conform_now();
     registers->pause(context, microseconds);
     conform_took("pause", microseconds, from, microseconds, 16 * (uint64_t)microseconds + 100000);
+}
+
+/* Once one of its bits is set a wait is over soon, and otherwise it lasts as long as it was told. */
+static void wait_for(void *context, uint32_t interrupts, uint32_t microseconds)
+{
+    enum { SOON = 1000000 };
+    uint32_t before = registers->read(context, INTERRUPT_STATUS, 4), after;
+    uint64_t from = conform_now(), longest = 16 * (uint64_t)microseconds + 100000;
+    registers->wait(context, interrupts, microseconds);
+    after = registers->read(context, INTERRUPT_STATUS, 4);
+    conform_took("wait", microseconds, from, after & interrupts ? 0 : microseconds, before & interrupts && longest > SOON ? SOON : longest);
+    conform_expect(!(before & ~after), CLEARED, "%08lx before, and %08lx after it", (unsigned long)before, (unsigned long)after);
 }
 
 /* A register goes through a block of its own, where it is seen how much of it is written to. */
@@ -116,6 +129,7 @@ int conform_wrap_registers(const struct conform *given, struct kelifandro *opene
     wrapped.read = read;
     wrapped.write = write;
     wrapped.pause = pause_for;
+    wrapped.wait = registers->wait ? wait_for : 0;
     wrapped.take_back = registers->take_back ? take_back : 0;
     conform_take_registers_way(BY_WORDS);
     opened->registers = &wrapped;
@@ -156,8 +170,17 @@ const char *conform_take_registers_way(unsigned number)
 void conform_ask_registers(void)
 {
     static const uint32_t waits[] = {1, 50, 1000, 20000, 64000};
+    uint32_t set;
     for (size_t i = 0; i < sizeof waits / sizeof *waits; i++)
         wrapped.pause(wrapped.context, waits[i]);
+    if (!registers->wait)
+        return;
+    /* for nothing that comes, and for what has come */
+    set = registers->read(registers->context, INTERRUPT_STATUS, 4) & ALL_SHOWN;
+    for (size_t i = 0; i < sizeof waits / sizeof *waits; i++)
+        wrapped.wait(wrapped.context, ALL_SHOWN & ~set, waits[i]);
+    if (set)
+        wrapped.wait(wrapped.context, set, 3000000);
 }
 
 /* What goes through the Buffer Data Port in place of DMA is right too. */

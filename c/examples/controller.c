@@ -1,7 +1,8 @@
 /* SD Host Controller Simplified Specification 3.00, section 2.2, as far as the library's driver goes. */
 #include "controller.h"
 
-enum { COMMAND_COMPLETE = 1, TRANSFER_COMPLETE = 2, ERROR = 0x8000 };
+enum { COMMAND_COMPLETE = 1, TRANSFER_COMPLETE = 2, WRITE_READY = 0x10, READ_READY = 0x20, ERROR = 0x8000 };
+enum { OF_A_COMMAND = 0x000f0001 };
 enum { COMMAND_TIMEOUT = 1 << 16, DATA_TIMEOUT = 1 << 20, DATA_CRC = 1 << 21, DMA_ERROR = 1 << 25 };
 enum { SDMA = 0, ADMA2 = 0x10, ADMA2_WIDE = 0x18 }; /* Host Control 1, bits 4 and 3 */
 
@@ -21,8 +22,16 @@ void controller_begin(struct controller *controller, const struct kelifandro_hos
     controller->table_at = 0x20000000;
 }
 
+/* What data has done shows later, and not before its command. */
+static void show_later(struct controller *controller)
+{
+    uint64_t from = controller->now > controller->command_at ? controller->now : controller->command_at;
+    controller->data_at = from + controller->data_takes;
+}
+
 static void fail(struct controller *controller, uint32_t error)
 {
+    show_later(controller);
     controller->status |= ERROR | error;
     controller->direction = KELIFANDRO_NO_DATA;
     controller->length = 0;
@@ -31,6 +40,7 @@ static void fail(struct controller *controller, uint32_t error)
 /* A block has passed. */
 static void passed(struct controller *controller)
 {
+    show_later(controller);
     if (--controller->left == 0) {
         controller->status |= TRANSFER_COMPLETE;
         controller->direction = KELIFANDRO_NO_DATA;
@@ -42,6 +52,8 @@ static void receive(struct controller *controller)
 {
     controller->at = 0;
     controller->length = controller->sizes & 0xfff;
+    controller->status |= READ_READY;
+    show_later(controller);
     switch (controller->host->read_block(controller->host->context, controller->buffer, controller->length)) {
     case 0:
         break;
@@ -68,19 +80,38 @@ static void block_taken(struct controller *controller)
         receive(controller);
 }
 
-/* What Interrupt Status shows at this look: the bits that are enabled. */
+/* What Interrupt Status shows: the bits that are enabled, as far as they are set by now. */
+static uint32_t shown(const struct controller *controller)
+{
+    uint32_t bits = controller->status & controller->enabled;
+    if (controller->now < controller->command_at)
+        bits &= ~(uint32_t)OF_A_COMMAND;
+    if (controller->now < controller->data_at)
+        bits &= OF_A_COMMAND;
+    return bits | (bits >> 16 ? ERROR : 0);
+}
+
+/* An error that wasn't shown yet. */
+static void show_error(struct controller *controller)
+{
+    controller->looks = 0;
+    fail(controller, controller->error);
+    controller->error = 0;
+}
+
+/* A look. */
 static uint32_t status(struct controller *controller)
 {
-    if (controller->looks && --controller->looks == 0) {
-        fail(controller, controller->error);
-        controller->error = 0;
-    }
-    return controller->status & (controller->enabled | ERROR);
+    if (controller->looks && --controller->looks == 0)
+        show_error(controller);
+    return shown(controller);
 }
 
 static void transmit(struct controller *controller)
 {
     controller->is_waiting = 0;
+    controller->status |= WRITE_READY;
+    show_later(controller);
     switch (controller->host->write_block(controller->host->context, controller->buffer)) {
     case 0:
         passed(controller);
@@ -217,6 +248,7 @@ static void command(struct controller *controller, uint32_t word)
         .blocks = (uint16_t)(word & 0x20 ? controller->sizes >> 16 : 1),
     };
     uint32_t words[4] = {0, 0, 0, 0};
+    controller->command_at = controller->now + controller->command_takes;
     if (!is_on(controller) || controller->host->send(controller->host->context, &command, words) != 0) {
         controller->status |= ERROR | COMMAND_TIMEOUT;
         /* what was moved meanwhile is of no use */
@@ -235,6 +267,8 @@ static void command(struct controller *controller, uint32_t word)
         move_by_dma(controller);
     else if (command.data == KELIFANDRO_READ)
         receive(controller);
+    else
+        controller->status |= WRITE_READY, show_later(controller);
 }
 
 static uint32_t pop(struct controller *controller)
@@ -284,6 +318,8 @@ static void reset(struct controller *controller, uint32_t lines)
         controller->misuses = was.misuses;
         controller->moved = was.moved;
         controller->read_whole = was.read_whole, controller->written_whole = was.written_whole;
+        controller->now = was.now, controller->command_takes = was.command_takes, controller->data_takes = was.data_takes;
+        controller->line = was.line, controller->reads = was.reads, controller->waits = was.waits, controller->fired = was.fired;
         controller->lent = was.lent, controller->lent_size = was.lent_size, controller->is_room = was.is_room;
         controller->lent_at = was.lent_at, controller->table_at = was.table_at, controller->table_length = was.table_length;
         set_ios(controller);
@@ -293,7 +329,7 @@ static void reset(struct controller *controller, uint32_t lines)
         controller->at = controller->length = 0;
         controller->is_waiting = controller->looks = 0;
         controller->error = 0;
-        controller->status &= ~(uint32_t)TRANSFER_COMPLETE;
+        controller->status &= ~(uint32_t)(TRANSFER_COMPLETE | READ_READY | WRITE_READY);
     }
 }
 
@@ -304,6 +340,8 @@ static uint32_t present(struct controller *controller)
         state &= ~(uint32_t)0x00050000;
     if (controller->is_locked)
         state &= ~(uint32_t)0x00080000;
+    if (controller->now < controller->data_at)
+        return state;
     if (controller->direction == KELIFANDRO_READ && controller->length)
         state |= 1 << 11;
     if (controller->direction == KELIFANDRO_WRITE && (!controller->is_waiting || !controller->one_block))
@@ -336,6 +374,7 @@ static uint32_t read(void *context, unsigned offset, unsigned size)
 {
     struct controller *controller = context;
     controller->misuses += !is_access(controller, offset, size);
+    controller->reads++;
     if (controller->is_bare && (offset == 0x24 || offset == 0x28 || offset == 0xfc || offset == 0x40))
         return read_bytes(controller, offset);
     switch (offset) {
@@ -376,7 +415,7 @@ static int has_way(const struct controller *controller, uint32_t way)
 
 /* Sizes, lines, power, clock, and a command with data wait until no data is under way; several blocks are counted; eight lines and high speed are
    in Capabilities; the port wants data; and while data is under way
-   only a command's bits are cleared. */
+   only a command's bits are cleared, and that the buffer was ready. */
 static int is_misuse(const struct controller *controller, unsigned offset, uint32_t value)
 {
     int is_moving = controller->direction != KELIFANDRO_NO_DATA || controller->looks;
@@ -398,7 +437,7 @@ static int is_misuse(const struct controller *controller, unsigned offset, uint3
     case 0x20:
         return controller->direction != KELIFANDRO_WRITE;
     case 0x30:
-        return is_moving && (value & ~0x000f0001u);
+        return is_moving && (value & ~(uint32_t)(OF_A_COMMAND | READ_READY | WRITE_READY));
     default:
         return 0;
     }
@@ -512,7 +551,42 @@ static void write_port(void *context, const void *bytes, size_t words)
 
 static void pause(void *context, uint32_t microseconds)
 {
-    (void)context, (void)microseconds;
+    ((struct controller *)context)->now += microseconds;
+}
+
+/* When the line fires next, no later than at this time. */
+static uint64_t fires_at(const struct controller *controller, uint64_t end)
+{
+    uint64_t command = controller->command_at, data = controller->data_at, now = controller->now, at = end;
+    enum { LATE = 300, AGAIN = 100 };
+    if (data > now && data < at)
+        at = data;
+    if (command > now && command < at)
+        at = command;
+    switch (controller->line) {
+    case LINE_LATE:
+        return at + LATE;
+    case LINE_NEVER:
+        return end;
+    case LINE_FOR_NOTHING:
+        return now + AGAIN < at ? now + AGAIN : at;
+    default:
+        return at;
+    }
+}
+
+/* The status says when it is over: a bit may be set already, and the line fires for nothing. */
+static void wait(void *context, uint32_t interrupts, uint32_t microseconds)
+{
+    struct controller *controller = context;
+    uint64_t end = controller->now + microseconds;
+    controller->waits++;
+    if (controller->looks)
+        show_error(controller);
+    while (!(shown(controller) & interrupts) && controller->now < end) {
+        controller->now = fires_at(controller, end);
+        controller->fired++;
+    }
 }
 
 const struct kelifandro_registers port_registers = {
@@ -534,3 +608,14 @@ const struct kelifandro_registers board_registers = {.read = read,
                                                      .capabilities = 1 << 24 | 1 << 21 | 1 << 18 | 50 << 8};
 
 const struct kelifandro_registers controller_registers = {.read = read, .write = write, .pause = pause};
+
+const struct kelifandro_registers waiting_registers = {.read = read, .write = write, .pause = pause, .wait = wait};
+
+const struct kelifandro_registers waiting_dma_registers = {.read = read,
+                                                           .write = write,
+                                                           .pause = pause,
+                                                           .wait = wait,
+                                                           .lend = lend,
+                                                           .take_back = take_back,
+                                                           .table = table,
+                                                           .table_size = sizeof table};

@@ -3,6 +3,9 @@
 #define CONTROLLER_H
 #include "card.h"
 
+/* How its interrupt line behaves: it fires once a bit is set, later, never, or without a bit again and again. */
+enum controller_line { LINE_ON_TIME, LINE_LATE, LINE_NEVER, LINE_FOR_NOTHING };
+
 struct controller {
     /* The way to the card: a controller's own steps, each by one call. */
     const struct kelifandro_host *host;
@@ -38,6 +41,13 @@ struct controller {
     uint32_t sdma_address, adma_address, adma_upper;
     /* blocks that DMA has moved, and such as were read or written through the port by one call */
     unsigned long moved, read_whole, written_whole;
+    /* The time in microseconds, by pauses and waits alone. What a command has done shows after so many of them, and what its data has done
+       after so many more; until then it is as if it ran. */
+    uint64_t now, command_at, data_at;
+    uint32_t command_takes, data_takes;
+    enum controller_line line;
+    /* registers that were read, waits for interrupts, and how often the line has fired in them */
+    unsigned long reads, waits, fired;
     /* how often it was told what its registers don't allow at that time */
     unsigned long misuses;
 };
@@ -50,6 +60,8 @@ extern const struct kelifandro_registers controller_registers;
 extern const struct kelifandro_registers port_registers;
 /* Those with memory for DMA, which is used where Capabilities have ADMA2 (bit 19) or SDMA (bit 22). */
 extern const struct kelifandro_registers dma_registers;
+/* Either with a function that waits for interrupts. */
+extern const struct kelifandro_registers waiting_registers, waiting_dma_registers;
 /* Those of a bare board, which says itself what they don't. */
 extern const struct kelifandro_registers board_registers;
 

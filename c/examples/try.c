@@ -137,6 +137,27 @@ static void pause_shortly(void *context, uint32_t microseconds)
     controller_registers.pause(context, microseconds);
 }
 
+/* How a command with its data is waited for, a block of a read, one of a write, and data that the controller moves. */
+static unsigned long waited[4];
+
+static void wait_for(void *context, uint32_t interrupts, uint32_t microseconds)
+{
+    static const struct {
+        uint32_t interrupts, others, microseconds;
+    } waits[] = {{0x000f0001, 0x000f0001, 10000}, {0x007f0020, 0x007f0002, 100000}, {0x007f0010, 0x007f0002, 500000}, {0x027f0002, 0x027f0002, 10000000}};
+    size_t i = 0;
+    while (i < 4 && (microseconds != waits[i].microseconds || (interrupts != waits[i].interrupts && interrupts != waits[i].others)))
+        i++;
+    expect(i < 4, "what is waited for", interrupts);
+    waited[i % 4]++;
+    waiting_registers.wait(context, interrupts, microseconds);
+}
+
+/* Whether registers have a function that waits for interrupts, how the line behaves then, and what takes how long. */
+static int is_waiting;
+static enum controller_line line;
+static uint32_t command_takes, data_takes;
+
 /* How many lines are wired, and whether there is high speed; how many statuses of the card lag. */
 static int lines = 8, high_speed = 1;
 static unsigned late;
@@ -167,6 +188,10 @@ static void begin(int is_emmc, enum way way)
         controller.lent_at = 0x1010000000, controller.table_at = 0x2020000000;
     registers.context = &controller;
     registers.pause = pause_shortly;
+    registers.wait = is_waiting ? wait_for : 0;
+    controller.line = line;
+    controller.command_takes = command_takes;
+    controller.data_takes = data_takes;
     paused_shortly = 0;
     if (way == BARE)
         registers.capabilities = controller.capabilities;
@@ -252,6 +277,51 @@ static void each_in_turn(int is_emmc, enum way way)
     printf("%s by %s%s: %lu answers lost and damaged in turn\n", is_emmc ? "eMMC" : "SD", ways[way], late ? ", statuses lag" : "", tried);
 }
 
+/* Each answer lost, and damaged, in turn, while the driver waits for interrupts: that are there already, that come on time, late, never, and
+   for nothing. A command takes 48 bits to and fro, and a line that never fires costs each wait's whole time. */
+static void waits_in_turn(void)
+{
+    static const enum way by[] = {ONE_BLOCK, SEVERAL_BLOCKS, BY_PORT, BARE, DMA_BY_ADDRESS, DMA_BY_TABLE};
+    static const struct {
+        enum controller_line line;
+        uint32_t command_takes, data_takes;
+    } lines_of[] = {{LINE_ON_TIME, 25, 2}, {LINE_ON_TIME, 5, 2000}, {LINE_ON_TIME, 2000, 4}, {LINE_LATE, 100, 700}, {LINE_NEVER, 100, 700},
+                    {LINE_FOR_NOTHING, 1234, 567}};
+    unsigned long tried = 0;
+    is_waiting = 1;
+    for (size_t i = 0; i < sizeof by / sizeof *by; i++)
+        for (size_t k = 0; k < sizeof lines_of / sizeof *lines_of; k++)
+            for (int is_emmc = 0; is_emmc < 2; is_emmc++) {
+                line = lines_of[k].line, command_takes = lines_of[k].command_takes, data_takes = lines_of[k].data_takes;
+                unsigned long answers = whole(is_emmc, by[i], ~0ul, 0);
+                expect(controller.waits > 0, "interrupts that are waited for", k);
+                for (unsigned long lost = tried % EVERY; lost < answers; lost += EVERY, tried++)
+                    whole(is_emmc, by[i], lost, 0), whole(is_emmc, by[i], lost, 1);
+            }
+    for (size_t i = 0; i < 4; i++)
+        expect(waited[i] > 0, "waits of each kind", i);
+    is_waiting = 0, line = LINE_ON_TIME, command_takes = data_takes = 0;
+    printf("registers, waiting for interrupts: %lu answers lost and damaged in turn\n", tried);
+}
+
+/* How often registers are read for a request of 4 KiB whose blocks take 2 ms. */
+enum { WAITS = 2000 };
+
+static void few_reads(enum way way, unsigned long most)
+{
+    unsigned long reads, waits;
+    is_waiting = 1, command_takes = 5, data_takes = 2000;
+    begin(0, way);
+    expect(kelifandro_open(&sd) == KELIFANDRO_DONE, "open", way);
+    reads = controller.reads, waits = controller.waits;
+    for (unsigned long i = 0; i < WAITS; i++)
+        expect(kelifandro_read(&sd, KELIFANDRO_USER, 8 * (i % 100), 8, back) == KELIFANDRO_DONE, "read", i);
+    reads = controller.reads - reads, waits = controller.waits - waits;
+    expect(waits == WAITS && reads < most * WAITS, "registers that are read while it is waited", reads);
+    is_waiting = 0, command_takes = data_takes = 0;
+    printf("%s: %lu waits of 2 ms, and %lu registers read for each request\n", ways[way], waits, reads / WAITS);
+}
+
 /* What is refused is told neither to the card nor to its host. */
 static void refusals(enum way way)
 {
@@ -311,6 +381,28 @@ static void boards(void)
         registers.table_size = size;
         expect(kelifandro_open(&sd) == KELIFANDRO_DONE && kelifandro_write(&sd, KELIFANDRO_USER, 3, 2, data) == KELIFANDRO_DONE, "a long table", 0);
         expect(controller.moved == 2, "DMA by a long table", 0);
+    }
+}
+
+static int reject(void *context, const void *block)
+{
+    (void)context, (void)block;
+    return 1;
+}
+
+/* A block that is always rejected: as many attempts fail as the caller says, or four. */
+static void attempts(void)
+{
+    static const uint16_t said[] = {0, 1, 2, 9, 300};
+    for (size_t i = 0; i < sizeof said / sizeof *said; i++) {
+        begin(0, HOST);
+        expect(kelifandro_open(&sd) == KELIFANDRO_DONE, "open", i);
+        host.write_block = reject;
+        sd.attempts = said[i];
+        expect(kelifandro_write(&sd, KELIFANDRO_USER, 3, 1, data) == KELIFANDRO_FAILED_DATA, "it fails", said[i]);
+        expect(sd.healed.attempts == (said[i] ? said[i] : 4) && failures() == sd.healed.attempts, "as many attempts as are said", said[i]);
+        host.write_block = card_host.write_block;
+        expect(kelifandro_write(&sd, KELIFANDRO_USER, 3, 1, data) == KELIFANDRO_DONE, "the next is settled first", said[i]);
     }
 }
 
@@ -610,6 +702,8 @@ int main(int words, char **word)
         each_in_turn(is_emmc, HOST), each_in_turn(is_emmc, SEVERAL_BLOCKS);
     expect(paused > 0, "pauses between statuses", paused);
     late = 0;
+    waits_in_turn();
+    few_reads(DMA_BY_TABLE, 40), few_reads(DMA_BY_ADDRESS, 40);
     for (int way = HOST; way <= DMA_BY_WIDE_TABLE; way++)
         refusals(way), long_requests(way), switches(way), shown(way);
     longer_requests(HOST), longer_requests(WHOLE);
@@ -618,6 +712,7 @@ int main(int words, char **word)
     within_each_other();
     one_line(0), one_line(1);
     boards();
+    attempts();
     lost_ways();
     clocks();
     beyond_reach();

@@ -251,6 +251,11 @@ static inline uint8_t umin8(uint8_t a, uint8_t b)
     return a < b ? a : b;
 }
 
+static inline uint16_t umin16(uint16_t a, uint16_t b)
+{
+    return a < b ? a : b;
+}
+
 static inline uint16_t umax16(uint16_t a, uint16_t b)
 {
     return a > b ? a : b;
@@ -394,13 +399,13 @@ static const KELIFANDRO_ROOM uint8_t bytes_answers_refused_number[32] = {
     250, 255, 255, 255, 250, 255, 255, 255,
 };
 
+static const KELIFANDRO_ROOM uint8_t bytes_opening_open_once[20] = {
+    236, 255, 255, 255, 231, 255, 255, 255, 235, 255, 255, 255, 235, 255, 255, 255, 230, 255, 255, 255,
+};
+
 static const KELIFANDRO_ROOM uint8_t bytes_command_send[28] = {
     0, 0, 0, 0, 0, 0, 26, 0, 0, 0, 26, 0, 0, 0, 9, 0, 0, 0, 2, 0, 0, 0, 26, 0,
     0, 0, 26, 0,
-};
-
-static const KELIFANDRO_ROOM uint8_t bytes_opening_open_once[20] = {
-    236, 255, 255, 255, 231, 255, 255, 255, 235, 255, 255, 255, 235, 255, 255, 255, 230, 255, 255, 255,
 };
 
 static void calls_open_card(uint8_t *a0, uint8_t *a1, uint8_t *a2);
@@ -410,7 +415,6 @@ static void bits_read_checked(uint8_t *a0, uint8_t *a1);
 static bool register_response_check_fits(uint8_t *a0);
 static void csd_read_csd(uint8_t *a0, uint8_t a1, uint8_t *a2);
 static uint64_t Sizes_of(uint8_t *a0, uint8_t a1);
-static void AskedRecord_asked(uint8_t *a0, uint8_t *a1);
 static struct of_i8_i8 rules_sectors_refusal(uint64_t a0, uint8_t a1, uint8_t *a2, uint8_t a3, uint64_t a4, uint64_t a5);
 static void hosts_switch_off(uint8_t *a0);
 static void given_given_by(uint8_t *a0, uint8_t *a1);
@@ -422,64 +426,68 @@ static uint32_t Stream_read_register(uint8_t *a0, uint8_t a1, uint8_t a2);
 static void Stream_ask(uint8_t *a0, uint8_t *a1, uint64_t a2, uint8_t *a3, uint64_t a4);
 static uint64_t io_read_full(uint32_t a0, uint8_t *a1, uint64_t a2);
 static void Stream_write_register(uint8_t *a0, uint8_t a1, uint8_t a2, uint32_t a3);
-static uint32_t requests_serve_told(uint8_t *a0, uint8_t *a1, uint8_t *a2, uint8_t *a3, uint8_t *a4, uint64_t a5);
+static void hosts_switch_on(uint8_t *a0);
+static uint32_t opening_open_once(uint8_t *a0, uint8_t *a1, uint8_t *a2);
+static void CFunctionsHost_set_ios(uint8_t *a0, uint8_t *a1);
+static void command_lose_all(uint8_t *a0);
+static void command_reset_command(uint8_t *a0);
+static void settling_settle_reset(uint8_t *a0);
+static void Stream_pause(uint8_t *a0, uint32_t a1);
+static void command_reset_data(uint8_t *a0);
 static uint32_t CRegistersRegisters_read32(uint8_t *a0, uint8_t a1);
 static uint8_t StoryRegistersRegisters_read8(uint8_t *a0, uint8_t a1);
 static uint8_t CRegisters_read_in_word(uint8_t *a0, uint8_t a1);
-static void noted_note(uint8_t *a0, uint8_t *a1);
-static void noted_noted(uint8_t *a0, uint8_t *a1, uint8_t a2, uint8_t a3);
-static void u128_to_be_bytes(uint8_t *a0, u128 a1);
-static void noted_note_broken(uint8_t *a0, uint8_t *a1);
-static void WayHost_set_ios(uint8_t *a0, uint8_t *a1);
-static void CFunctionsHost_set_ios(uint8_t *a0, uint8_t *a1);
 static void clock_set_clock(uint8_t *a0, uint32_t a1, uint8_t a2, uint32_t a3);
-static void Stream_pause(uint8_t *a0, uint32_t a1);
-static void attempts_attempt(uint8_t *a0, uint8_t *a1, uint8_t *a2, uint8_t *a3, uint8_t *a4);
-static struct of_i8_i8 order_restore(uint8_t *a0, uint8_t *a1);
-static void order_show_status(uint8_t *a0, uint8_t *a1, uint16_t a2);
-static void host_ask(uint8_t *a0, uint8_t *a1, uint8_t a2, uint32_t a3);
+static void initialization_initialize(uint8_t *a0, uint8_t *a1);
+static void identification_identify(uint8_t *a0, uint8_t *a1);
+static void shared_go_idle(uint8_t *a0);
 static void frame_framed(uint8_t *a0, uint8_t a1, uint32_t a2);
 static void HostBusBus_command(uint8_t *a0, uint8_t *a1, uint8_t *a2, uint8_t a3);
 static void HostBusBus_begin(uint8_t *a0, uint8_t *a1, uint8_t *a2, uint8_t a3, uint16_t a4);
 static void command_read_command(uint8_t *a0, uint8_t *a1);
 static bool frame_is_sound_frame(uint8_t *a0);
 static void HostState_command(uint8_t *a0, uint8_t *a1, uint8_t a2, uint32_t a3, uint16_t a4);
+static void WayHost_set_ios(uint8_t *a0, uint8_t *a1);
 static void records_heard_by(uint8_t *a0, uint8_t a1, uint8_t *a2);
 static void SdhciHost_send(uint8_t *a0, uint8_t *a1, uint8_t *a2);
 static void command_send(uint8_t *a0, uint8_t *a1, uint8_t *a2, uint8_t *a3, uint8_t a4);
-static void command_reset_command(uint8_t *a0);
-static void settling_settle_reset(uint8_t *a0);
-static void command_reset_data(uint8_t *a0);
 static void HostState_sent(uint8_t *a0, uint8_t *a1, uint8_t *a2, bool a3);
 static void replies_spelled(uint8_t *a0, uint8_t *a1, uint8_t *a2);
 static void Wire_note(uint8_t *a0, uint8_t *a1);
+static void host_ask(uint8_t *a0, uint8_t *a1, uint8_t a2, uint32_t a3);
 static void host_response_in(uint8_t *a0, uint8_t *a1, uint8_t a2);
-static void wait_count_polls(uint8_t *a0, uint8_t *a1);
-static bool host_poll(uint8_t *a0);
-static struct of_i8_i8 status_confirm(uint8_t *a0, uint8_t a1, uint16_t a2);
-static struct of_i8_i8 status_ask_closing(uint8_t *a0, uint8_t a1, uint16_t a2);
-static struct of_i8_i8 status_check_closing(uint8_t a0, uint8_t *a1);
-static void reopening_reset(uint8_t *a0, uint8_t *a1, uint8_t *a2);
-static void initialization_initialize(uint8_t *a0, uint8_t *a1);
-static void identification_identify(uint8_t *a0, uint8_t *a1);
-static void shared_go_idle(uint8_t *a0);
 static struct of_i8_i8 sd_announce(uint8_t *a0);
 static void sd_inquire(uint8_t *a0, uint8_t *a1, bool a2);
 static void host_ask_ocr(uint8_t *a0, uint8_t *a1, uint8_t a2, uint32_t a3);
 static void judging_inquired(uint8_t *a0, uint8_t *a1);
 static void host_ask_register(uint8_t *a0, uint8_t *a1, uint8_t a2, uint32_t a3);
+static void wait_count_polls(uint8_t *a0, uint8_t *a1);
+static bool host_poll(uint8_t *a0);
+static struct of_i8_i8 status_check_closing(uint8_t a0, uint8_t *a1);
 static uint8_t sd_announce_2(uint8_t *a0, uint16_t a1);
 static uint8_t data_receive(uint8_t *a0, uint8_t *a1, uint64_t a2);
 static uint8_t SdhciHost_read_block(uint8_t *a0, uint8_t *a1, uint64_t a2);
 static void watching_watch(uint8_t *a0, uint8_t *a1, uint8_t a2, uint8_t a3);
 static void HostState_block_passed(uint8_t *a0, uint8_t *a1, bool a2);
 static void sd_switch_func(uint8_t *a0, uint8_t *a1, uint32_t a2);
+static struct of_i8_i8 status_confirm(uint8_t *a0, uint8_t a1, uint16_t a2);
+static struct of_i8_i8 status_ask_closing(uint8_t *a0, uint8_t a1, uint16_t a2);
 static uint64_t Csd_sectors(uint8_t *a0);
 static struct of_i8_i8 mmc_switch(uint8_t *a0, uint16_t a1, uint32_t a2);
+static void noted_note(uint8_t *a0, uint8_t *a1);
+static void noted_noted(uint8_t *a0, uint8_t *a1, uint8_t a2, uint8_t a3);
+static void u128_to_be_bytes(uint8_t *a0, u128 a1);
+static void hosts_end(uint8_t *a0, bool a1);
+static void CRegisters_give_back(uint8_t *a0);
+static uint32_t requests_serve_told(uint8_t *a0, uint8_t *a1, uint8_t *a2, uint8_t *a3, uint8_t *a4, uint64_t a5);
+static void noted_note_broken(uint8_t *a0, uint8_t *a1);
+static void attempts_attempt(uint8_t *a0, uint8_t *a1, uint8_t *a2, uint8_t *a3, uint8_t *a4);
+static struct of_i8_i8 order_restore(uint8_t *a0, uint8_t *a1);
+static void order_show_status(uint8_t *a0, uint8_t *a1, uint16_t a2);
+static void reopening_reset(uint8_t *a0, uint8_t *a1, uint8_t *a2);
 static void Info_used_as(uint8_t *a0, uint8_t *a1, uint8_t *a2);
 static void Stream_send_with(uint8_t *a0, uint8_t *a1, uint8_t a2, uint8_t *a3, uint64_t a4);
 static struct of_i8_i64 CRegisters_lend(uint8_t *a0, bool a1, uint64_t a2);
-static void CRegisters_give_back(uint8_t *a0);
 static void Sdhci_move_blocks(uint8_t *a0, uint8_t *a1, uint8_t *a2, uint64_t a3, uint64_t a4);
 static void Data_less_by(uint8_t *a0, uint8_t *a1, uint64_t a2);
 static struct of_i8_i8 Run_stand(uint8_t *a0, uint8_t *a1);
@@ -489,11 +497,7 @@ static uint8_t SdhciHost_write_block(uint8_t *a0, uint8_t *a1);
 static void request_erase(uint8_t *a0, uint8_t *a1, uint8_t *a2, uint64_t a3, uint64_t a4, uint8_t a5);
 static void counting_count_done(uint8_t *a0);
 static void counting_count_failed(uint8_t *a0, uint8_t a1);
-static void hosts_end(uint8_t *a0, bool a1);
-static void command_lose_all(uint8_t *a0);
 static struct of_i8_i32 longs_may_begin(uint8_t *a0, uint8_t *a1, uint8_t *a2);
-static void hosts_switch_on(uint8_t *a0);
-static uint32_t opening_open_once(uint8_t *a0, uint8_t *a1, uint8_t *a2);
 
 /* kelifandro::calls::open_card */
 static void calls_open_card(uint8_t *a0, uint8_t *a1, uint8_t *a2)
@@ -946,27 +950,6 @@ join_8: {
 }
 }
 
-/* kelifandro::asked::AskedRecord::asked */
-static void AskedRecord_asked(uint8_t *a0, uint8_t *a1)
-{
-    uint64_t sink;
-    uint32_t r13 = load32_aligned(a1 + 16);
-    if (!((r13 < 256u) && ((uint8_t)r13 < 7u))) {
-        sink = 0u;
-        goto common_ret;
-    }
-    uint64_t r37 = load64_aligned(a1);
-    uint64_t r39 = load64_aligned(a1 + 8);
-    store64(a0 + 8, (uint64_t)(umin32(load32_aligned(a1 + 20), 3u) | (r13 << 8u)));
-    store64(a0 + 16, r37);
-    store64(a0 + 24, r39);
-    sink = 1u;
-common_ret: {
-    store64(a0, sink);
-    return;
-}
-}
-
 /* mmc_requests::rules::sectors_refusal */
 static struct of_i8_i8 rules_sectors_refusal(uint64_t a0, uint8_t a1, uint8_t *a2, uint8_t a3, uint64_t a4, uint64_t a5)
 {
@@ -1174,6 +1157,3856 @@ static void Stream_write_register(uint8_t *a0, uint8_t a1, uint8_t a2, uint32_t 
     return;
 }
 
+/* kelifandro::hosts::switch_on */
+static void hosts_switch_on(uint8_t *a0)
+{
+    KELIFANDRO_ROOM uint8_t r2[36];
+    given_given_by(r2, a0);
+    if (*r2 != 0u) {
+        goto join_4;
+    }
+    CFunctions_set_power(r2 + 4, true);
+join_4: {
+    return;
+}
+}
+
+/* kelifandro::opening::open_once::<#fb070baa9c134c3e> */
+static uint32_t opening_open_once(uint8_t *a0, uint8_t *a1, uint8_t *a2)
+{
+    KELIFANDRO_ROOM uint8_t room[208];
+    uint8_t *const r4 = room;
+    uint8_t *const r2_2 = room;
+    uint8_t *const r0 = room;
+    uint8_t *const r3_2 = room;
+    uint8_t *const r5 = room;
+    uint8_t *const r9 = room;
+    uint8_t *const r11 = room;
+    uint8_t *const r8_41 = room;
+    uint8_t *const r3 = room + 40;
+    uint8_t *const r25_6_8_0 = room + 40;
+    uint8_t *const r16 = room + 56;
+    uint8_t *const r25_6_4 = room + 56;
+    uint8_t *const r1_2 = room + 160;
+    uint8_t *const r1_7 = room + 176;
+    uint8_t *const r4_8_4 = room + 176;
+    uint8_t *const r4_8_9 = room + 192;
+    KELIFANDRO_ROOM uint8_t r2[184];
+    KELIFANDRO_ROOM uint8_t room_2[104];
+    uint8_t *const r1_4 = room_2;
+    uint8_t *const r7_3 = room_2;
+    KELIFANDRO_ROOM uint8_t r4_8_6[97];
+    uint8_t r1_3_0;
+    uint32_t r1_0_0;
+    uint8_t r1_2_0;
+    uint8_t r3_919_0;
+    uint8_t r3_10_0;
+    uint16_t r3_11_0;
+    bool r7;
+    uint32_t r6;
+    uint8_t r40;
+    uint32_t r8;
+    uint32_t r3_0;
+    uint32_t r1_07;
+    uint32_t r12_3_2_0_ph;
+    uint8_t r0_0_0_pn_speculated;
+    uint8_t r0_2_0_pn_speculated;
+    uint16_t r12_6_8_0;
+    uint8_t r12_6_7_0;
+    uint8_t r12_6_6_0;
+    uint8_t r12_6_9_18_0;
+    uint8_t r12_6_9_19_0;
+    uint32_t r12_6_9_21_0;
+    uint8_t r12_6_9_22_0;
+    uint32_t r12_6_9_24_0;
+    uint32_t r12_3_2_0;
+    uint8_t r4_12_03157;
+    uint8_t r4_16_03255;
+    uint8_t r4_20_03353;
+    uint8_t r4_8_0_03450;
+    u128 r4_8_5_03547;
+    bool r4_8_8_038_off046;
+    uint8_t r4_12_03156;
+    uint8_t r4_16_03254;
+    uint8_t r4_20_03352;
+    uint8_t r4_8_0_03451;
+    u128 r4_8_5_03548;
+    bool r4_8_8_038_off045;
+    bool r2_0_off0;
+    uint8_t r4_12_031565980;
+    uint8_t r4_16_032546179;
+    uint8_t r4_20_033526378;
+    uint8_t r4_8_0_034516477;
+    u128 r4_8_5_035486676;
+    bool r2_0_off0_6875;
+    bool r5_0_shrunk;
+    bool r2_0_off0_67;
+    uint8_t r4_8_0_0345165;
+    uint8_t r4_20_0335262;
+    uint8_t r4_16_0325460;
+    uint8_t r4_12_0315658;
+    u128 r4_8_5_03549;
+    bool r6_0_off0;
+    uint32_t v;
+    uint32_t r6_0;
+    uint32_t r7_0;
+    given_given_by(r11, a0);
+    r1_3_0 = r11[9];
+    r1_0_0 = load32_aligned(r11 + 4);
+    r1_2_0 = r11[8];
+    if (*r11 == 0u) {
+        memcpy(r3 + 6, r11 + 10, 6);
+        store32_aligned(r3, r1_0_0);
+        r3[4] = r1_2_0;
+        r3[5] = r1_3_0;
+        *r16 = 0u;
+        r16[1] = 0u;
+        r16[2] = 1u;
+        CFunctionsHost_set_ios(r3, r16);
+        memcpy(r25_6_4, r11 + 10, 6);
+        r0_0_0_pn_speculated = r1_2_0;
+        r0_2_0_pn_speculated = r1_3_0;
+        r12_6_8_0 = 0u; /* any */
+        r12_6_7_0 = r1_3_0;
+        r12_6_6_0 = r1_2_0;
+        r12_6_9_18_0 = 0u; /* any */
+        r12_6_9_19_0 = 0u; /* any */
+        r12_6_9_21_0 = 0u; /* any */
+        r12_6_9_22_0 = 0u; /* any */
+        r12_6_9_24_0 = 0u; /* any */
+        r12_3_2_0 = 0u;
+        goto arm_1;
+    }
+    r3_919_0 = r11[16];
+    r3_10_0 = r11[17];
+    r3_11_0 = load16_aligned(r11 + 18);
+    r7 = a0[11] == 1u;
+    command_lose_all(r11 + 4);
+    StoryRegistersRegisters_write8(r11 + 4, 41u, 0u);
+    Stream_pause(r11 + 4, 10000u);
+    StoryRegistersRegisters_write8(r11 + 4, 47u, 1u);
+    settling_settle_reset(r11 + 4);
+    Stream_write_register(r11 + 4, 4u, 52u, UINT32_C(0x7f0033));
+    Stream_write_register(r11 + 4, 4u, 56u, 0u);
+    r6 = CRegistersRegisters_read32(r11 + 4, 64u);
+    r40 = StoryRegistersRegisters_read8(r11 + 4, 254u);
+    r8 = (uint32_t)(r6 >> 8u) & 255u;
+    r3_0 = ((r40 < 2u) && (r8 > 63u)) ? 0u : r8;
+    if ((r6 & UINT32_C(0x1000000)) == 0u) {
+        r12_3_2_0_ph = UINT32_C(0xffffffea);
+        goto arm_2;
+    }
+    if (r3_0 == 0u) {
+        r12_3_2_0_ph = UINT32_C(0xffffffe9);
+        goto arm_2;
+    }
+    r1_07 = 0u;
+join_5: {
+    uint32_t r6_2 = CRegistersRegisters_read32(r11 + 4, 36u);
+    if ((r6_2 & UINT32_C(0x20000)) == 0u) {
+        Stream_pause(r11 + 4, 100u);
+        uint32_t r37 = r1_07 + 1u;
+        if (r37 == 1000u) {
+            r12_3_2_0_ph = UINT32_C(0xffffffe8);
+            goto arm_2;
+        }
+        r1_07 = r37;
+        goto join_5;
+    }
+    if ((r6_2 & UINT32_C(0x10000)) == 0u) {
+        r12_3_2_0_ph = UINT32_C(0xffffffe8);
+        goto arm_2;
+    }
+    StoryRegistersRegisters_write8(r11 + 4, 41u, 15u);
+    StoryRegistersRegisters_write8(r11 + 4, 40u, 0u);
+    clock_set_clock(r11 + 4, r3_0, r40, UINT32_C(0x61a80));
+    Stream_pause(r11 + 4, (UINT32_C(0x24f6c) / r8) + 1001u);
+    uint8_t spec_select = (uint8_t)(r7 ? 0u : (uint8_t)(((r6 & UINT32_C(0x40000)) == 0u) ? 1u : 2u));
+    uint8_t r7_0_0 = (uint8_t)((uint8_t)(r6 >> 21u) & 1u);
+    memcpy(r25_6_4, r11 + 10, 6);
+    memcpy(r25_6_8_0, r11 + 20, 16);
+    r0_0_0_pn_speculated = spec_select;
+    r0_2_0_pn_speculated = r7_0_0;
+    r12_6_8_0 = r3_11_0;
+    r12_6_7_0 = r3_10_0;
+    r12_6_6_0 = r3_919_0;
+    r12_6_9_18_0 = spec_select;
+    r12_6_9_19_0 = r7_0_0;
+    r12_6_9_21_0 = r3_0;
+    r12_6_9_22_0 = r40;
+    r12_6_9_24_0 = r6;
+    r12_3_2_0 = 1u;
+    goto arm_1;
+}
+arm_2: {
+    *a1 = 0u;
+    memset(a2, 0u, 64);
+    r7_0 = r12_3_2_0_ph;
+    goto join_4;
+}
+arm_1: {
+    memset(r8_41 + 4, 0u, 13);
+    store32_aligned(r2, r12_3_2_0);
+    store32_aligned(r2 + 4, r1_0_0);
+    r2[8] = r1_2_0;
+    r2[9] = r1_3_0;
+    memcpy(r2 + 10, r25_6_4, 6);
+    r2[16] = r12_6_6_0;
+    r2[17] = r12_6_7_0;
+    store16_aligned(r2 + 18, r12_6_8_0);
+    memcpy(r2 + 20, r25_6_8_0, 16);
+    r2[36] = 0u;
+    r2[37] = 0u;
+    r2[38] = 1u;
+    r2[39] = 1u;
+    r2[40] = 0u;
+    store16_aligned(r2 + 42, 0u);
+    store16_aligned(r2 + 44, 0u);
+    store32_aligned(r2 + 52, 0u);
+    store32_aligned(r2 + 60, 0u);
+    store32_aligned(r2 + 64, 0u);
+    store32_aligned(r2 + 68, 0u);
+    r2[72] = 1u;
+    r2[73] = r12_6_9_18_0;
+    r2[74] = r12_6_9_19_0;
+    store32_aligned(r2 + 76, r12_6_9_21_0);
+    r2[80] = r12_6_9_22_0;
+    store32_aligned(r2 + 84, r12_6_9_24_0);
+    r2[88] = 0u;
+    r2[89] = 0u;
+    r2[90] = r0_0_0_pn_speculated;
+    r2[91] = r0_2_0_pn_speculated;
+    store64_aligned(r2 + 96, 0u);
+    store64_aligned(r2 + 136, 0u);
+    r2[144] = 0u;
+    r2[145] = 0u;
+    r2[146] = 1u;
+    r2[147] = 1u;
+    r2[148] = 0u;
+    store16_aligned(r2 + 150, 0u);
+    store16_aligned(r2 + 152, 0u);
+    store32_aligned(r2 + 160, 0u);
+    memcpy(r2 + 164, r8_41, 17);
+    *a1 = 0u;
+    memset(a2, 0u, 64);
+    initialization_initialize(r3_2, r2);
+    if (*r3_2 == 0u) {
+        uint8_t r1_2_144 = r3_2[160];
+        uint8_t r1_4_145 = r3_2[161];
+        uint8_t r1_6_146 = r3_2[162];
+        uint8_t r4_8_0_0_12 = r3_2[16];
+        memcpy(r4_8_4, r3_2 + 17, 15);
+        u128 r4_8_5_0_14 = load128_aligned(r3_2 + 32);
+        memcpy(r4_8_6, r3_2 + 48, 97);
+        uint8_t r4_8_7_0_16 = r3_2[145];
+        uint8_t r4_8_8_0_18 = r3_2[146];
+        memcpy(r4_8_9, r3_2 + 147, 13);
+        bool extract_t44 = (r4_8_8_0_18 & 1u) != 0;
+        memcpy(r1_2, r4_8_4, 15);
+        memcpy(r1_4, r4_8_6, 97);
+        memcpy(r1_7, r4_8_9, 13);
+        if ((r4_8_7_0_16 & 1u) != 0) {
+            r4_12_03157 = r1_2_144;
+            r4_16_03255 = r1_4_145;
+            r4_20_03353 = r1_6_146;
+            r4_8_0_03450 = r4_8_0_0_12;
+            r4_8_5_03547 = r4_8_5_0_14;
+            r4_8_8_038_off046 = extract_t44;
+            goto then_1;
+        }
+        r4_12_03156 = r1_2_144;
+        r4_16_03254 = r1_4_145;
+        r4_20_03352 = r1_6_146;
+        r4_8_0_03451 = r4_8_0_0_12;
+        r4_8_5_03548 = r4_8_5_0_14;
+        r4_8_8_038_off045 = extract_t44;
+        r2_0_off0 = false;
+        goto join_3;
+    }
+    initialization_initialize(r5, r2);
+    if (*r5 == 0u) {
+        uint8_t r2_2_144 = r5[160];
+        uint8_t r2_4_145 = r5[161];
+        uint8_t r2_6_146 = r5[162];
+        uint8_t r4_8_0_0_11 = r5[16];
+        memcpy(r4_8_4, r5 + 17, 15);
+        u128 r4_8_5_0_13 = load128_aligned(r5 + 32);
+        memcpy(r4_8_6, r5 + 48, 97);
+        uint8_t r4_8_7_0_15 = r5[145];
+        uint8_t r4_8_8_0_17 = r5[146];
+        memcpy(r4_8_9, r5 + 147, 13);
+        bool extract_t43 = (r4_8_8_0_17 & 1u) != 0;
+        memcpy(r1_2, r4_8_4, 15);
+        memcpy(r1_4, r4_8_6, 97);
+        memcpy(r1_7, r4_8_9, 13);
+        if ((r4_8_7_0_15 & 1u) != 0) {
+            r4_12_03157 = r2_2_144;
+            r4_16_03255 = r2_4_145;
+            r4_20_03353 = r2_6_146;
+            r4_8_0_03450 = r4_8_0_0_11;
+            r4_8_5_03547 = r4_8_5_0_13;
+            r4_8_8_038_off046 = extract_t43;
+            goto then_1;
+        }
+        r4_12_03156 = r2_2_144;
+        r4_16_03254 = r2_4_145;
+        r4_20_03352 = r2_6_146;
+        r4_8_0_03451 = r4_8_0_0_11;
+        r4_8_5_03548 = r4_8_5_0_13;
+        r4_8_8_038_off045 = extract_t43;
+        r2_0_off0 = false;
+        goto join_3;
+    }
+    initialization_initialize(r0, r2);
+    uint8_t v11 = *r0;
+    uint8_t v12 = r0[1];
+    uint8_t v13 = r0[2];
+    uint8_t r4_8_0_0 = r0[16];
+    memcpy(r4_8_4, r0 + 17, 15);
+    u128 r4_8_5_0 = load128_aligned(r0 + 32);
+    memcpy(r4_8_6, r0 + 48, 97);
+    uint8_t r4_8_7_0 = r0[145];
+    uint8_t r4_8_8_0 = r0[146];
+    memcpy(r4_8_9, r0 + 147, 13);
+    uint8_t v14 = r0[160];
+    uint8_t v15 = r0[161];
+    uint8_t v16 = r0[162];
+    if (v11 == 0u) {
+        bool extract_t42 = (r4_8_8_0 & 1u) != 0;
+        memcpy(r1_2, r4_8_4, 15);
+        memcpy(r1_4, r4_8_6, 97);
+        memcpy(r1_7, r4_8_9, 13);
+        if ((r4_8_7_0 & 1u) != 0) {
+            r4_12_03157 = v14;
+            r4_16_03255 = v15;
+            r4_20_03353 = v16;
+            r4_8_0_03450 = r4_8_0_0;
+            r4_8_5_03547 = r4_8_5_0;
+            r4_8_8_038_off046 = extract_t42;
+            goto then_1;
+        }
+        r4_12_03156 = v14;
+        r4_16_03254 = v15;
+        r4_20_03352 = v16;
+        r4_8_0_03451 = r4_8_0_0;
+        r4_8_5_03548 = r4_8_5_0;
+        r4_8_8_038_off045 = extract_t42;
+        r2_0_off0 = false;
+        goto join_3;
+    }
+    if (v12 != 0u) {
+        r6_0 = (v13 == 0u) ? UINT32_C(0xffffffec) : UINT32_C(0xffffffeb);
+        goto kelifandro_opening_open_over_1bed76fd314cf36e_exit;
+    }
+    r6_0 = load32_aligned(at((uint8_t *)bytes_opening_open_once, (uint64_t)v13 * 4u));
+    goto kelifandro_opening_open_over_1bed76fd314cf36e_exit;
+}
+then_1: {
+    uint64_t r14 = (uint64_t)u128_lshr(r4_8_5_03547, 56u).lo & UINT64_C(0xffffffffffff);
+    if (r4_8_0_03450 != 1u) {
+        r4_12_03156 = r4_12_03157;
+        r4_16_03254 = r4_16_03255;
+        r4_20_03352 = r4_20_03353;
+        r4_8_0_03451 = r4_8_0_03450;
+        r4_8_5_03548 = r4_8_5_03547;
+        r4_8_8_038_off045 = r4_8_8_038_off046;
+        r2_0_off0 = true;
+        goto join_3;
+    }
+    switch ((uint8_t)u128_lshr(r4_8_5_03547, 120u).lo) {
+    default: {
+        r4_12_03156 = r4_12_03157;
+        r4_16_03254 = r4_16_03255;
+        r4_20_03352 = r4_20_03353;
+        r4_8_0_03451 = 1u;
+        r4_8_5_03548 = r4_8_5_03547;
+        r4_8_8_038_off045 = r4_8_8_038_off046;
+        r2_0_off0 = true;
+        goto join_3;
+    }
+    case 2u: {
+        switch (r14) {
+        default: {
+            if (r4_8_8_038_off046) {
+                r4_12_031565980 = r4_12_03157;
+                r4_16_032546179 = r4_16_03255;
+                r4_20_033526378 = r4_20_03353;
+                r4_8_0_034516477 = 1u;
+                r4_8_5_035486676 = r4_8_5_03547;
+                r2_0_off0_6875 = true;
+                r5_0_shrunk = false;
+                goto mmc_switch_known_faults_locks_up_at_cmd23_exit;
+            }
+            r2_0_off0_67 = true;
+            r4_8_0_0345165 = 1u;
+            r4_20_0335262 = r4_20_03353;
+            r4_16_0325460 = r4_16_03255;
+            r4_12_0315658 = r4_12_03157;
+            r4_8_5_03549 = r4_8_5_03547;
+            r6_0_off0 = false;
+            goto arm_1_9;
+        }
+        case UINT64_C(0x53454d303247):
+        case UINT64_C(0x53454d303447):
+        case UINT64_C(0x53454d303847):
+        case UINT64_C(0x53454d313647):
+        case UINT64_C(0x53454d333247): {
+            r4_12_03156 = r4_12_03157;
+            r4_16_03254 = r4_16_03255;
+            r4_20_03352 = r4_20_03353;
+            r4_8_0_03451 = 1u;
+            r4_8_5_03548 = r4_8_5_03547;
+            r4_8_8_038_off045 = r4_8_8_038_off046;
+            r2_0_off0 = false;
+            goto join_3;
+        }
+        }
+    }
+    case 112u: {
+        switch (r14) {
+        default: {
+            if (r4_8_8_038_off046) {
+                r4_12_031565980 = r4_12_03157;
+                r4_16_032546179 = r4_16_03255;
+                r4_20_033526378 = r4_20_03353;
+                r4_8_0_034516477 = 1u;
+                r4_8_5_035486676 = r4_8_5_03547;
+                r2_0_off0_6875 = true;
+                r5_0_shrunk = false;
+                goto mmc_switch_known_faults_locks_up_at_cmd23_exit;
+            }
+            r2_0_off0_67 = true;
+            r4_8_0_0345165 = 1u;
+            r4_20_0335262 = r4_20_03353;
+            r4_16_0325460 = r4_16_03255;
+            r4_12_0315658 = r4_12_03157;
+            r4_8_5_03549 = r4_8_5_03547;
+            r6_0_off0 = false;
+            goto arm_1_9;
+        }
+        case UINT64_C(0x4d3632373034):
+        case UINT64_C(0x563130303038):
+        case UINT64_C(0x563130303136): {
+            r4_12_03156 = r4_12_03157;
+            r4_16_03254 = r4_16_03255;
+            r4_20_03352 = r4_20_03353;
+            r4_8_0_03451 = 1u;
+            r4_8_5_03548 = r4_8_5_03547;
+            r4_8_8_038_off045 = r4_8_8_038_off046;
+            r2_0_off0 = false;
+            goto join_3;
+        }
+        }
+    }
+    case 19u: {
+        bool r29 = r14 != UINT64_C(0x51324a353441);
+        if (r4_8_8_038_off046) {
+            r4_12_031565980 = r4_12_03157;
+            r4_16_032546179 = r4_16_03255;
+            r4_20_033526378 = r4_20_03353;
+            r4_8_0_034516477 = 1u;
+            r4_8_5_035486676 = r4_8_5_03547;
+            r2_0_off0_6875 = r29;
+            r5_0_shrunk = false;
+            goto mmc_switch_known_faults_locks_up_at_cmd23_exit;
+        }
+        r2_0_off0_67 = r29;
+        r4_8_0_0345165 = 1u;
+        r4_20_0335262 = r4_20_03353;
+        r4_16_0325460 = r4_16_03255;
+        r4_12_0315658 = r4_12_03157;
+        r4_8_5_03549 = r4_8_5_03547;
+        r6_0_off0 = false;
+        goto arm_1_9;
+    }
+    }
+}
+join_3: {
+    if (!r4_8_8_038_off045) {
+        r2_0_off0_67 = r2_0_off0;
+        r4_8_0_0345165 = r4_8_0_03451;
+        r4_20_0335262 = r4_20_03352;
+        r4_16_0325460 = r4_16_03254;
+        r4_12_0315658 = r4_12_03156;
+        r4_8_5_03549 = r4_8_5_03548;
+        r6_0_off0 = false;
+        goto arm_1_9;
+    }
+    if (r4_8_0_03451 != 0u) {
+        r4_12_031565980 = r4_12_03156;
+        r4_16_032546179 = r4_16_03254;
+        r4_20_033526378 = r4_20_03352;
+        r4_8_0_034516477 = r4_8_0_03451;
+        r4_8_5_035486676 = r4_8_5_03548;
+        r2_0_off0_6875 = r2_0_off0;
+        r5_0_shrunk = false;
+        goto mmc_switch_known_faults_locks_up_at_cmd23_exit;
+    }
+    switch ((uint8_t)u128_lshr(r4_8_5_03548, 120u).lo) {
+    default: {
+        r4_12_031565980 = r4_12_03156;
+        r4_16_032546179 = r4_16_03254;
+        r4_20_033526378 = r4_20_03352;
+        r4_8_0_034516477 = 0u;
+        r4_8_5_035486676 = r4_8_5_03548;
+        r2_0_off0_6875 = r2_0_off0;
+        r5_0_shrunk = false;
+        goto mmc_switch_known_faults_locks_up_at_cmd23_exit;
+    }
+    case 9u: {
+        r4_12_031565980 = r4_12_03156;
+        r4_16_032546179 = r4_16_03254;
+        r4_20_033526378 = r4_20_03352;
+        r4_8_0_034516477 = 0u;
+        r4_8_5_035486676 = r4_8_5_03548;
+        r2_0_off0_6875 = r2_0_off0;
+        r5_0_shrunk = u128_eq(u128_and(r4_8_5_03548, u128_of(UINT64_C(0xffffffffff), 0u)), u128_of(UINT64_C(0x4146205344), 0u));
+        goto mmc_switch_known_faults_locks_up_at_cmd23_exit;
+    }
+    case 39u: {
+        r4_12_031565980 = r4_12_03156;
+        r4_16_032546179 = r4_16_03254;
+        r4_20_033526378 = r4_20_03352;
+        r4_8_0_034516477 = 0u;
+        r4_8_5_035486676 = r4_8_5_03548;
+        r2_0_off0_6875 = r2_0_off0;
+        r5_0_shrunk = u128_eq(u128_and(r4_8_5_03548, u128_of(UINT64_C(0xffffffffff), 0u)), u128_of(UINT64_C(0x4150555344), 0u));
+        goto mmc_switch_known_faults_locks_up_at_cmd23_exit;
+    }
+    }
+}
+mmc_switch_known_faults_locks_up_at_cmd23_exit: {
+    r2_0_off0_67 = r2_0_off0_6875;
+    r4_8_0_0345165 = r4_8_0_034516477;
+    r4_20_0335262 = r4_20_033526378;
+    r4_16_0325460 = r4_16_032546179;
+    r4_12_0315658 = r4_12_031565980;
+    r4_8_5_03549 = r4_8_5_035486676;
+    r6_0_off0 = r5_0_shrunk != true;
+}
+arm_1_9: {
+    *r9 = r4_8_0_0345165;
+    memcpy(r9 + 1, r1_2, 15);
+    store128_aligned(r9 + 16, r4_8_5_03549);
+    memcpy(r9 + 32, r1_4, 97);
+    r9[129] = (uint8_t)r2_0_off0_67;
+    r9[130] = (uint8_t)r6_0_off0;
+    memcpy(r9 + 131, r1_7, 13);
+    r9[144] = r4_12_0315658;
+    r9[145] = r4_16_0325460;
+    r9[146] = r4_20_0335262;
+    noted_note(r7_3, r9);
+    memcpy(a1, r7_3, 104);
+    noting_stands_by(r2_2, a1);
+    if (*r2_2 == 1u) {
+        v = 0u;
+        goto kelifandro_opening_is_noted_exit;
+    }
+    *a1 = 0u;
+    v = UINT32_C(0xffffffeb);
+}
+kelifandro_opening_is_noted_exit: {
+    r6_0 = v;
+}
+kelifandro_opening_open_over_1bed76fd314cf36e_exit: {
+    uint8_t r0_0_0 = *r2;
+    memcpy(r4 + 4, r2 + 4, 84);
+    store32_aligned(r4, (uint32_t)r0_0_0);
+    hosts_end(r4, r6_0 != 0u);
+    r7_0 = r6_0;
+}
+join_4: {
+    return r7_0;
+}
+}
+
+/* c_host::functions::CFunctionsHost::set_ios */
+static void CFunctionsHost_set_ios(uint8_t *a0, uint8_t *a1)
+{
+    KELIFANDRO_ROOM uint8_t r3[7];
+    uint8_t r0_0_0 = *a1;
+    uint8_t r0_2_0 = a1[1];
+    uint8_t r0_3_0 = a1[2];
+    *r3 = 5u;
+    r3[1] = (uint8_t)((uint32_t)UINT32_C(0x80401) >> ((((uint32_t)r0_0_0 << 3u) & UINT32_C(0xffffff)) & 31u));
+    r3[2] = r0_2_0;
+    store32(r3 + 3, ((r0_3_0 & 1u) != 0) ? UINT32_C(0x61a80) : ((r0_2_0 == 0u) ? UINT32_C(0x17d7840) : UINT32_C(0x2faf080)));
+    io_write_all(load32_aligned(a0), r3, 7u);
+    return;
+}
+
+/* mmc_sdhci::command::lose_all::<#d002fd087b3dc1c2> */
+static void command_lose_all(uint8_t *a0)
+{
+    command_reset_command(a0);
+    command_reset_data(a0);
+    return;
+}
+
+/* mmc_sdhci::command::reset_command::<#d002fd087b3dc1c2> */
+static void command_reset_command(uint8_t *a0)
+{
+    StoryRegistersRegisters_write8(a0, 47u, 2u);
+    settling_settle_reset(a0);
+    return;
+}
+
+/* mmc_sdhci::settling::settle_reset::<#d002fd087b3dc1c2> */
+static void settling_settle_reset(uint8_t *a0)
+{
+    uint32_t r0_03;
+    r0_03 = 0u;
+join_5: {
+    uint8_t r13 = StoryRegistersRegisters_read8(a0, 47u);
+    if (r13 == 0u) {
+        goto common_ret;
+    }
+    Stream_pause(a0, 100u);
+    uint32_t r21 = r0_03 + 1u;
+    if (r21 != 1000u) {
+        r0_03 = r21;
+        goto join_5;
+    }
+    StoryRegistersRegisters_read8(a0, 47u);
+}
+common_ret: {
+    return;
+}
+}
+
+/* c_host::stream::Stream::pause */
+static void Stream_pause(uint8_t *a0, uint32_t a1)
+{
+    KELIFANDRO_ROOM uint8_t r15[5];
+    *r15 = 6u;
+    store32(r15 + 1, a1);
+    io_write_all(load32_aligned(a0), r15, 5u);
+    return;
+}
+
+/* mmc_sdhci::command::reset_data::<#d002fd087b3dc1c2> */
+static void command_reset_data(uint8_t *a0)
+{
+    StoryRegistersRegisters_write8(a0, 47u, 4u);
+    settling_settle_reset(a0);
+    return;
+}
+
+/* c_host::registers::CRegistersRegisters::read32 */
+static uint32_t CRegistersRegisters_read32(uint8_t *a0, uint8_t a1)
+{
+    uint32_t r3_0;
+    uint32_t r6 = Stream_read_register(a0, 4u, a1);
+    switch (a1) {
+    default: {
+        r3_0 = r6;
+        goto sdhci_board_known_Known_shown_exit;
+    }
+    case 36u: {
+        r3_0 = (a0[4] == 1u) ? (r6 | UINT32_C(0xf0000)) : r6;
+        goto sdhci_board_known_Known_shown_exit;
+    }
+    case 64u: {
+        r3_0 = (a0[8] == 1u) ? load32(a0 + 12) : r6;
+        goto sdhci_board_known_Known_shown_exit;
+    }
+    }
+sdhci_board_known_Known_shown_exit: {
+    return r3_0;
+}
+}
+
+/* sdhci_story::registers::StoryRegistersRegisters::read8::<#52343085cde207f1> */
+static uint8_t StoryRegistersRegisters_read8(uint8_t *a0, uint8_t a1)
+{
+    uint8_t r2_0;
+    if ((a0[16] & 1u) != 0) {
+        uint8_t r14 = CRegisters_read_in_word(a0, a1);
+        r2_0 = r14;
+        goto c_host_registers_CRegistersRegisters_read8_exit;
+    }
+    uint32_t r16 = Stream_read_register(a0, 1u, a1);
+    r2_0 = (uint8_t)r16;
+c_host_registers_CRegistersRegisters_read8_exit: {
+    return r2_0;
+}
+}
+
+/* c_host::registers::CRegisters::read_in_word */
+static uint8_t CRegisters_read_in_word(uint8_t *a0, uint8_t a1)
+{
+    KELIFANDRO_ROOM uint8_t r2[4];
+    uint32_t r7 = CRegistersRegisters_read32(a0, (uint8_t)(a1 & 252u));
+    store32_aligned(r2, r7);
+    uint8_t r15 = *at(r2, (uint64_t)(uint8_t)(a1 & 3u));
+    return r15;
+}
+
+/* mmc_sdhci::clock::set_clock::<#d002fd087b3dc1c2> */
+static void clock_set_clock(uint8_t *a0, uint32_t a1, uint8_t a2, uint32_t a3)
+{
+    uint32_t common_ret_op;
+    uint32_t r13_6;
+    uint32_t r0_04;
+    uint32_t r5 = a1 * UINT32_C(0xf4240);
+    if (!(r5 > a3)) {
+        common_ret_op = 0u;
+        goto mmc_sdhci_clock_divider_exit;
+    }
+    uint32_t r12 = (r5 + UINT32_C(0xffffffff)) / (a3 << 1u);
+    if (!(a2 < 2u)) {
+        common_ret_op = r12 + 1u;
+        goto mmc_sdhci_clock_divider_exit;
+    }
+    common_ret_op = (uint32_t)1u << (((0u - ctlz32(r12)) & 31u) & 31u);
+mmc_sdhci_clock_divider_exit: {
+    r13_6 = ((uint32_t)(common_ret_op << 8u) & 65280u) + ((common_ret_op >> 2u) & UINT32_C(0x3fffffc0));
+    Stream_write_register(a0, 4u, 44u, UINT32_C(0xe0000));
+    Stream_write_register(a0, 4u, 44u, r13_6 + UINT32_C(0xe0001));
+    r0_04 = 0u;
+}
+join_5: {
+    uint8_t r15 = StoryRegistersRegisters_read8(a0, 44u);
+    if (!((uint8_t)(r15 & 2u) == 0u)) {
+        goto mmc_sdhci_settling_settle_clock_d002fd087b3dc1c2_exit;
+    }
+    Stream_pause(a0, 100u);
+    uint32_t r27 = r0_04 + 1u;
+    if (r27 != 1500u) {
+        r0_04 = r27;
+        goto join_5;
+    }
+    StoryRegistersRegisters_read8(a0, 44u);
+}
+mmc_sdhci_settling_settle_clock_d002fd087b3dc1c2_exit: {
+    Stream_write_register(a0, 4u, 44u, r13_6 + UINT32_C(0xe0005));
+    return;
+}
+}
+
+/* mmc_switch::initialization::initialize::<#1bed76fd314cf36e> */
+static void initialization_initialize(uint8_t *a0, uint8_t *a1)
+{
+    KELIFANDRO_ROOM uint8_t room[512];
+    uint8_t *const r0_4 = room;
+    uint8_t *const r2_3_2 = room;
+    uint8_t *const r7_3 = room;
+    uint8_t *const r7_1 = room;
+    uint8_t *const r7_3_2 = room;
+    uint8_t *const r2_4 = room;
+    uint8_t *const r2_3 = room;
+    uint8_t *const r7_2 = room;
+    uint8_t *const r2_2 = room;
+    uint8_t *const r1_28 = room + 32;
+    KELIFANDRO_ROOM uint8_t r5[80];
+    KELIFANDRO_ROOM uint8_t r2[64];
+    uint8_t r16;
+    bool v1;
+    uint8_t r4_6_pre;
+    uint8_t r0_0_0;
+    uint8_t r14_8_0_16_0;
+    uint8_t r14_8_6_0;
+    uint8_t v39;
+    uint64_t v41;
+    bool v43;
+    uint64_t v50;
+    uint64_t v52;
+    uint64_t v59;
+    uint64_t v66;
+    uint64_t v73;
+    bool v74;
+    uint8_t v76;
+    uint64_t v78;
+    uint16_t r80;
+    uint8_t r21;
+    uint64_t v;
+    uint64_t r1_0;
+    uint64_t a0_14;
+    uint64_t pre;
+    uint64_t a0_17_297;
+    uint64_t a0_11_283288296;
+    uint64_t a0_14_289295;
+    uint64_t common_ret_op;
+    uint8_t r1_8_2_ph;
+    uint16_t r24;
+    u128 r4_0;
+    bool r2_0_in;
+    uint64_t r130;
+    uint8_t r0_3_0_ph;
+    uint8_t r0_3_0_ph_2;
+    uint8_t r3_3_0_62_ph;
+    uint8_t r3_3_0_62;
+    uint8_t r3;
+    uint64_t r1_3_2_0;
+    uint8_t *sink80_phi;
+    uint8_t *r1_28_sink;
+    uint8_t r1_14_0_57;
+    uint16_t r1_22_0_56;
+    uint8_t r1_26_0_55_in;
+    uint64_t r1_30_0_54;
+    u128 r1_38_0_53_in_in_in;
+    uint64_t r1_4021_0_52;
+    uint8_t r1_42_0_51;
+    uint8_t r1_44_0_50;
+    uint8_t r1_51_0_49;
+    uint8_t r1_53_0_48;
+    uint64_t r1_37_0_47;
+    uint64_t r1_36_0_46;
+    uint64_t r1_35_0_45;
+    uint64_t r1_34_0_44;
+    uint64_t r1_32_0_43;
+    uint8_t r1_46_0_r1_46_0_r1_46_16_42;
+    uint8_t r1_5522_0_r1_5522_0_r1_5522_160_r0_6_160_41;
+    uint8_t r1_8_0_ph;
+    uint8_t r7_9_0_0;
+    uint8_t r7_9_2_0;
+    uint16_t r7_9_3_0;
+    u128 r7_9_5_0;
+    uint64_t r7_9_7_0;
+    uint64_t r7_9_8_0;
+    uint64_t r7_9_9_0;
+    uint64_t r7_9_10_0;
+    uint64_t r7_9_11_0;
+    uint64_t r7_9_12_0;
+    uint8_t r7_9_13_0;
+    uint64_t r7_9_15_0;
+    uint8_t r7_9_16_0;
+    uint8_t r7_9_17_0;
+    uint8_t r7_9_18_0;
+    uint8_t r7_9_19_0;
+    uint8_t r7_9_20_0;
+    uint8_t r7_0_0;
+    uint8_t r7_3_0;
+    uint8_t r7_6_0;
+    uint8_t r7_11_0;
+    identification_identify(r5, a1);
+    if (*r5 != 0u) {
+        r7_9_0_0 = 0u; /* any */
+        r7_9_2_0 = 0u; /* any */
+        r7_9_3_0 = 0u; /* any */
+        r7_9_5_0 = u128_of(0u, 0u); /* any */
+        r7_9_7_0 = 0u; /* any */
+        r7_9_8_0 = 0u; /* any */
+        r7_9_9_0 = 0u; /* any */
+        r7_9_10_0 = 0u; /* any */
+        r7_9_11_0 = 0u; /* any */
+        r7_9_12_0 = 0u; /* any */
+        r7_9_13_0 = 0u; /* any */
+        r7_9_15_0 = 0u; /* any */
+        r7_9_16_0 = 0u; /* any */
+        r7_9_17_0 = 0u; /* any */
+        r7_9_18_0 = 0u; /* any */
+        r7_9_19_0 = 0u; /* any */
+        r7_9_20_0 = 0u; /* any */
+        r7_0_0 = 1u;
+        r7_3_0 = 0u;
+        r7_6_0 = r5[1];
+        r7_11_0 = 0u; /* any */
+        goto join_4;
+    }
+    memcpy(r2, r5 + 16, 64);
+    r16 = r2[1];
+    v1 = r16 == 0u;
+    r4_6_pre = *r2;
+    if (!v1) {
+        goto join_4_2;
+    }
+    host_ask(r2_2, a1, 16u, 512u);
+    if (*r2_2 != 0u) {
+        goto mmc_switch_widening_widen_1bed76fd314cf36e_exit_thread;
+    }
+    uint32_t v4 = load32_aligned(r2_2 + 4);
+    if ((v4 & ((r4_6_pre == 0u) ? UINT32_C(0xfd39a000) : UINT32_C(0xfd39a080))) == 0u) {
+        goto join_4_2;
+    }
+mmc_switch_widening_widen_1bed76fd314cf36e_exit_thread: {
+    r7_9_0_0 = 0u; /* any */
+    r7_9_2_0 = 0u;
+    r7_9_3_0 = 0u; /* any */
+    r7_9_5_0 = u128_of(0u, 0u); /* any */
+    r7_9_7_0 = 0u; /* any */
+    r7_9_8_0 = 0u; /* any */
+    r7_9_9_0 = 0u; /* any */
+    r7_9_10_0 = 0u; /* any */
+    r7_9_11_0 = 0u; /* any */
+    r7_9_12_0 = 0u; /* any */
+    r7_9_13_0 = 0u; /* any */
+    r7_9_15_0 = 0u; /* any */
+    r7_9_16_0 = 0u; /* any */
+    r7_9_17_0 = 0u; /* any */
+    r7_9_18_0 = 0u; /* any */
+    r7_9_19_0 = 0u; /* any */
+    r7_9_20_0 = 0u; /* any */
+    r7_0_0 = 1u;
+    r7_3_0 = 1u;
+    r7_6_0 = 0u;
+    r7_11_0 = 0u; /* any */
+    goto join_4;
+}
+join_4_2: {
+    if (r4_6_pre == 0u) {
+        r24 = load16_aligned(r2 + 2);
+        r4_0 = load128_aligned(r2 + 48);
+        r2_0_in = u128_eq(u128_and(r4_0, u128_of(UINT64_C(0xfff00000), 0u)), u128_of(0u, 0u)) || !u128_eq(u128_and(r4_0, u128_of(UINT64_C(0x40000000), 0u)), u128_of(0u, 0u));
+        uint8_t r7 = sd_announce_2(a1, r24);
+        if (r7 != 0u) {
+            r1_8_0_ph = 0u;
+            goto mmc_switch_widening_widen_1bed76fd314cf36e_exit_thread1;
+        }
+        host_ask(r7_2, a1, 51u, 0u);
+        if (*r7_2 != 0u) {
+            goto mmc_switch_sd_read_scr_1bed76fd314cf36e_exit_thread46;
+        }
+        if (!((load32_aligned(r7_2 + 4) & UINT32_C(0xfd39a000)) == 0u)) {
+            goto mmc_switch_sd_read_scr_1bed76fd314cf36e_exit_thread46;
+        }
+        store64_aligned(r2_3, 0u);
+        uint8_t r43 = data_receive(a1, r2_3, 8u);
+        if (r43 != 0u) {
+            goto mmc_switch_sd_read_scr_1bed76fd314cf36e_exit_thread46;
+        }
+        r130 = bswap64(load64_aligned(r2_3));
+        if ((r130 & UINT64_C(0x4000000000000)) == 0u) {
+            r0_3_0_ph = 0u;
+            goto arm_5;
+        }
+        if (a1[90] == 0u) {
+            r0_3_0_ph = 0u;
+            goto arm_5;
+        }
+        uint8_t r12 = sd_announce_2(a1, r24);
+        if (r12 != 0u) {
+            r1_8_0_ph = 0u;
+            goto mmc_switch_widening_widen_1bed76fd314cf36e_exit_thread1;
+        }
+        host_ask(r2_4, a1, 6u, 2u);
+        uint8_t v16 = *r2_4;
+        uint32_t v18 = load32_aligned(r2_4 + 4);
+        if (!((v16 == 0u) && ((v18 & UINT32_C(0xfd39a000)) == 0u))) {
+            r1_8_0_ph = 0u;
+            goto mmc_switch_widening_widen_1bed76fd314cf36e_exit_thread1;
+        }
+        a1[88] = 1u;
+        a1[89] = 0u;
+        r0_3_0_ph = 1u;
+        goto arm_5;
+    }
+    r0_0_0 = a1[90];
+    uint8_t r0_2_0 = a1[91];
+    host_ask(r7_3, a1, 8u, 0u);
+    if (*r7_3 != 0u) {
+        goto arm_2_6;
+    }
+    if (!((load32_aligned(r7_3 + 4) & UINT32_C(0xfd39a080)) == 0u)) {
+        goto arm_2_6;
+    }
+    memset(r2_3_2, 0u, 512);
+    uint8_t r40 = data_receive(a1, r2_3_2, 512u);
+    if (r40 != 0u) {
+        goto arm_2_6;
+    }
+    uint8_t r14_8_0_2_0 = r2_3_2[143];
+    uint8_t r14_8_0_3_0 = r2_3_2[144];
+    uint8_t r14_8_0_4_0 = r2_3_2[145];
+    uint8_t r14_8_0_5_0 = r2_3_2[146];
+    uint8_t r14_8_0_6_0 = r2_3_2[147];
+    uint8_t r14_8_0_7_0 = r2_3_2[148];
+    uint8_t r14_8_0_8_0 = r2_3_2[149];
+    uint8_t r14_8_0_9_0 = r2_3_2[150];
+    uint8_t r14_8_0_10_0 = r2_3_2[151];
+    uint8_t r14_8_0_11_0 = r2_3_2[152];
+    uint8_t r14_8_0_12_0 = r2_3_2[153];
+    uint8_t r14_8_0_13_0 = r2_3_2[154];
+    uint8_t r14_8_0_14_0 = r2_3_2[155];
+    r14_8_0_16_0 = r2_3_2[179];
+    uint8_t r14_8_0_18_0 = r2_3_2[181];
+    uint8_t r14_8_2_0 = r2_3_2[192];
+    uint8_t r14_8_3_2_0 = r2_3_2[196];
+    uint32_t r14_8_4_0 = load32(r2_3_2 + 212);
+    uint64_t r14_8_5_0 = load64(r2_3_2 + 216);
+    r14_8_6_0 = r2_3_2[224];
+    uint8_t r14_8_7_2_0 = r2_3_2[226];
+    uint8_t r14_8_7_4_0 = r2_3_2[231];
+    v39 = (uint8_t)(((uint8_t)(r14_8_3_2_0 & 2u) == 0u) ? 0u : r0_2_0);
+    v41 = (uint64_t)r14_8_7_2_0 << 8u;
+    v43 = (uint8_t)(r14_8_0_14_0 & 1u) == 0u;
+    v50 = (((uint64_t)r14_8_0_3_0 << 8u) | (uint64_t)r14_8_0_2_0) | ((uint64_t)r14_8_0_4_0 << 16u);
+    v52 = (r14_8_5_0 >> 30u) & UINT64_C(0x3fc00);
+    v59 = (((uint64_t)r14_8_0_6_0 << 8u) | (uint64_t)r14_8_0_5_0) | ((uint64_t)r14_8_0_7_0 << 16u);
+    v66 = (((uint64_t)r14_8_0_9_0 << 8u) | (uint64_t)r14_8_0_8_0) | ((uint64_t)r14_8_0_10_0 << 16u);
+    v73 = (((uint64_t)r14_8_0_12_0 << 8u) | (uint64_t)r14_8_0_11_0) | ((uint64_t)r14_8_0_13_0 << 16u);
+    v74 = r14_8_0_18_0 != 0u;
+    v76 = (uint8_t)((uint8_t)((uint32_t)r14_8_7_4_0 >> 4u) & 1u);
+    if ((r14_8_2_0 < 5u) || (r14_8_6_0 == 0u)) {
+        r1_8_2_ph = 1u;
+        goto mmc_switch_widening_widen_1bed76fd314cf36e_exit_thread60;
+    }
+    if (!((r16 != 1u) || (r14_8_4_0 != 0u))) {
+        r1_8_2_ph = 1u;
+        goto mmc_switch_widening_widen_1bed76fd314cf36e_exit_thread60;
+    }
+    v78 = (uint64_t)r14_8_4_0;
+    r80 = load16_aligned(r2 + 2);
+    struct of_i8_i8 r6_21 = mmc_switch(a1, r80, UINT32_C(0x3af0100));
+    if (r6_21.f0 != 0u) {
+        r1_8_2_ph = 0u;
+        goto mmc_switch_widening_widen_1bed76fd314cf36e_exit_thread60;
+    }
+    if (r0_0_0 == 0u) {
+        goto arm_6_25;
+    }
+    struct of_i8_i8 r16_2 = mmc_switch(a1, r80, ((uint32_t)r0_0_0 << 8u) | UINT32_C(0x3b70000));
+    if (r16_2.f0 != 0u) {
+        r1_8_2_ph = 0u;
+        goto mmc_switch_widening_widen_1bed76fd314cf36e_exit_thread60;
+    }
+    a1[88] = r0_0_0;
+    a1[89] = 0u;
+    goto arm_6_25;
+}
+arm_2_6: {
+    r1_8_2_ph = 0u;
+    goto mmc_switch_widening_widen_1bed76fd314cf36e_exit_thread60;
+}
+arm_6_25: {
+    if (v39 == 0u) {
+        goto arm_8;
+    }
+    struct of_i8_i8 r12_2 = mmc_switch(a1, r80, UINT32_C(0x3b90100));
+    if (r12_2.f0 != 0u) {
+        r1_8_2_ph = 0u;
+        goto mmc_switch_widening_widen_1bed76fd314cf36e_exit_thread60;
+    }
+    a1[88] = r0_0_0;
+    a1[89] = 1u;
+}
+arm_8: {
+    r21 = r2[32];
+    if (!v1) {
+        v = UINT64_C(0x100000000);
+        r1_0 = v78;
+        goto mmc_switch_registers_mmc_info_exit;
+    }
+    uint64_t r7_17 = Csd_sectors(r2 + 32);
+    v = UINT64_C(0x800000);
+    r1_0 = r7_17;
+}
+mmc_switch_registers_mmc_info_exit: {
+    a0_14 = (r1_0 > v) ? 0u : r1_0;
+    pre = (uint64_t)r14_8_6_0;
+    if (v43) {
+        a0_17_297 = 0u;
+        a0_11_283288296 = 0u;
+        a0_14_289295 = 0u;
+        common_ret_op = 0u;
+        goto mmc_switch_widening_widen_1bed76fd314cf36e_exit;
+    }
+    uint64_t r24_139 = (v50 * pre) * v52;
+    uint64_t r24_110 = (v59 * pre) * v52;
+    uint64_t r24_81 = (v66 * pre) * v52;
+    a0_17_297 = (r24_81 > v) ? 0u : r24_81;
+    a0_11_283288296 = (r24_139 > v) ? 0u : r24_139;
+    a0_14_289295 = (r24_110 > v) ? 0u : r24_110;
+    common_ret_op = (v73 * pre) * v52;
+}
+mmc_switch_widening_widen_1bed76fd314cf36e_exit: {
+    u128 r4_0_15 = load128_aligned(r2 + 48);
+    memcpy(r0_4 + 12, r5 + 32, 16);
+    sink80_phi = r5 + 64;
+    r1_28_sink = r1_28;
+    r1_14_0_57 = 1u;
+    r1_22_0_56 = r80;
+    r1_26_0_55_in = r21;
+    r1_30_0_54 = a0_14;
+    r1_38_0_53_in_in_in = r4_0_15;
+    r1_4021_0_52 = pre << 10u;
+    r1_42_0_51 = (uint8_t)(v74 ? 255u : 0u);
+    r1_44_0_50 = v76;
+    r1_51_0_49 = r0_0_0;
+    r1_53_0_48 = v39;
+    r1_37_0_47 = (common_ret_op > v) ? 0u : common_ret_op;
+    r1_36_0_46 = a0_17_297;
+    r1_35_0_45 = a0_14_289295;
+    r1_34_0_44 = a0_11_283288296;
+    r1_32_0_43 = v41;
+    r1_46_0_r1_46_0_r1_46_16_42 = 1u;
+    r1_5522_0_r1_5522_0_r1_5522_160_r0_6_160_41 = r14_8_0_16_0;
+    goto arm_5_2;
+}
+mmc_switch_widening_widen_1bed76fd314cf36e_exit_thread60: {
+    r7_9_0_0 = 1u;
+    r7_9_2_0 = r16;
+    r7_9_3_0 = 0u; /* any */
+    r7_9_5_0 = u128_of(0u, 0u); /* any */
+    r7_9_7_0 = 0u; /* any */
+    r7_9_8_0 = 0u; /* any */
+    r7_9_9_0 = 0u; /* any */
+    r7_9_10_0 = 0u; /* any */
+    r7_9_11_0 = 0u; /* any */
+    r7_9_12_0 = 0u; /* any */
+    r7_9_13_0 = 0u; /* any */
+    r7_9_15_0 = 0u; /* any */
+    r7_9_16_0 = 0u; /* any */
+    r7_9_17_0 = 0u; /* any */
+    r7_9_18_0 = 0u; /* any */
+    r7_9_19_0 = 0u; /* any */
+    r7_9_20_0 = 0u; /* any */
+    r7_0_0 = 1u;
+    r7_3_0 = 1u;
+    r7_6_0 = r1_8_2_ph;
+    r7_11_0 = 0u; /* any */
+    goto join_4;
+}
+mmc_switch_sd_read_scr_1bed76fd314cf36e_exit_thread46: {
+    r1_8_0_ph = 0u;
+    goto mmc_switch_widening_widen_1bed76fd314cf36e_exit_thread1;
+}
+arm_5: {
+    if (!(r2_0_in && ((r130 & UINT64_C(0xf00000000000000)) != 0u))) {
+        r3_3_0_62 = 0u;
+        goto arm_8_2;
+    }
+    if (a1[91] != 1u) {
+        r3_3_0_62 = 0u;
+        goto arm_8_2;
+    }
+    sd_switch_func(r7_3_2, a1, UINT32_C(0xfffff1));
+    if (*r7_3_2 != 0u) {
+        goto arm_9;
+    }
+    if ((uint8_t)(r7_3_2[14] & 2u) == 0u) {
+        r3_3_0_62_ph = 0u;
+        goto arm_8_sink_split;
+    }
+    sd_switch_func(r7_1, a1, UINT32_C(0x80fffff1));
+    if (*r7_1 != 0u) {
+        goto arm_9;
+    }
+    if (!((uint8_t)(r7_1[17] & 15u) == 1u)) {
+        r0_3_0_ph_2 = 0u;
+        goto mmc_switch_sd_set_timing_1bed76fd314cf36e_exit_thread75;
+    }
+    a1[88] = r0_3_0_ph;
+    a1[89] = 1u;
+    r0_3_0_ph_2 = 1u;
+    goto mmc_switch_sd_set_timing_1bed76fd314cf36e_exit_thread75;
+}
+arm_9: {
+    r1_8_0_ph = 0u;
+    goto mmc_switch_widening_widen_1bed76fd314cf36e_exit_thread1;
+}
+mmc_switch_sd_set_timing_1bed76fd314cf36e_exit_thread75: {
+    r3_3_0_62_ph = r0_3_0_ph_2;
+}
+arm_8_sink_split: {
+    r3_3_0_62 = r3_3_0_62_ph;
+}
+arm_8_2: {
+    struct of_i8_i8 r82 = status_confirm(a1, 0u, r24);
+    if (r82.f0 != 0u) {
+        r1_8_0_ph = 0u;
+        goto mmc_switch_widening_widen_1bed76fd314cf36e_exit_thread1;
+    }
+    r3 = r2[32];
+    switch (r3) {
+    default: {
+        trap();
+        return;
+    }
+    case 2u: {
+        r1_8_0_ph = 1u;
+        goto mmc_switch_widening_widen_1bed76fd314cf36e_exit_thread1;
+    }
+    case 0u: {
+        if (!u128_eq(u128_and(r4_0, u128_of(0u, UINT64_C(0x400000000000))), u128_of(0u, 0u))) {
+            r1_3_2_0 = 1u;
+            goto mmc_switch_widening_widen_1bed76fd314cf36e_exit_thread21;
+        }
+        uint64_t v25 = (uint64_t)r4_0.lo;
+        r1_3_2_0 = ((uint64_t)((uint64_t)(v25 >> 39u) & 127u) + 1u) << (((uint64_t)((uint64_t)((uint64_t)(v25 >> 22u) & 15u) + 247u) & 255u) & 63u);
+        goto mmc_switch_widening_widen_1bed76fd314cf36e_exit_thread21;
+    }
+    case 1u: {
+        r1_3_2_0 = 1u;
+        goto mmc_switch_widening_widen_1bed76fd314cf36e_exit_thread21;
+    }
+    }
+}
+mmc_switch_widening_widen_1bed76fd314cf36e_exit_thread21: {
+    memcpy(r1_28, r5 + 64, 16);
+    uint64_t r7_7 = Csd_sectors(r2 + 32);
+    sink80_phi = r5 + 32;
+    r1_28_sink = r0_4 + 12;
+    r1_14_0_57 = 0u;
+    r1_22_0_56 = r24;
+    r1_26_0_55_in = r3;
+    r1_30_0_54 = (v1 && (r7_7 > UINT64_C(0x800000))) ? 0u : r7_7;
+    r1_38_0_53_in_in_in = r4_0;
+    r1_4021_0_52 = r1_3_2_0;
+    r1_42_0_51 = (uint8_t)((((r130 << 8u) ^ (uint64_t)UINT64_C(0x8000000000000000)) >> 63u) - ((uint64_t)UINT64_C(0x8000000000000000) >> 63u));
+    r1_44_0_50 = 0u;
+    r1_51_0_49 = r0_3_0_ph;
+    r1_53_0_48 = r3_3_0_62;
+    r1_37_0_47 = 0u;
+    r1_36_0_46 = 0u;
+    r1_35_0_45 = 0u;
+    r1_34_0_44 = 0u;
+    r1_32_0_43 = 0u;
+    r1_46_0_r1_46_0_r1_46_16_42 = (uint8_t)((uint8_t)(r130 >> 33u) & 1u);
+    r1_5522_0_r1_5522_0_r1_5522_160_r0_6_160_41 = 0u;
+}
+arm_5_2: {
+    memcpy(r1_28_sink, sink80_phi, 16);
+    r7_9_0_0 = r1_14_0_57;
+    r7_9_2_0 = r16;
+    r7_9_3_0 = r1_22_0_56;
+    r7_9_5_0 = u128_of(0u, r1_26_0_55_in);
+    r7_9_7_0 = r1_30_0_54;
+    r7_9_8_0 = r1_32_0_43;
+    r7_9_9_0 = r1_34_0_44;
+    r7_9_10_0 = r1_35_0_45;
+    r7_9_11_0 = r1_36_0_46;
+    r7_9_12_0 = r1_37_0_47;
+    r7_9_13_0 = (uint8_t)!u128_eq(u128_and(r1_38_0_53_in_in_in, u128_of(0u, 12288u)), u128_of(0u, 0u));
+    r7_9_15_0 = r1_4021_0_52;
+    r7_9_16_0 = r1_42_0_51;
+    r7_9_17_0 = r1_44_0_50;
+    r7_9_18_0 = r1_46_0_r1_46_0_r1_46_16_42;
+    r7_9_19_0 = r1_51_0_49;
+    r7_9_20_0 = r1_53_0_48;
+    r7_0_0 = 0u;
+    r7_3_0 = 1u;
+    r7_6_0 = 0u; /* any */
+    r7_11_0 = r1_5522_0_r1_5522_0_r1_5522_160_r0_6_160_41;
+    goto join_4;
+}
+mmc_switch_widening_widen_1bed76fd314cf36e_exit_thread1: {
+    r7_9_0_0 = 0u;
+    r7_9_2_0 = r16;
+    r7_9_3_0 = r24;
+    r7_9_5_0 = u128_of(0u, 0u); /* any */
+    r7_9_7_0 = 0u; /* any */
+    r7_9_8_0 = 0u; /* any */
+    r7_9_9_0 = 0u; /* any */
+    r7_9_10_0 = 0u; /* any */
+    r7_9_11_0 = 0u; /* any */
+    r7_9_12_0 = 0u; /* any */
+    r7_9_13_0 = 0u; /* any */
+    r7_9_15_0 = 0u; /* any */
+    r7_9_16_0 = 0u; /* any */
+    r7_9_17_0 = 0u; /* any */
+    r7_9_18_0 = 0u; /* any */
+    r7_9_19_0 = 0u; /* any */
+    r7_9_20_0 = 0u; /* any */
+    r7_0_0 = 1u;
+    r7_3_0 = 1u;
+    r7_6_0 = r1_8_0_ph;
+    r7_11_0 = 0u; /* any */
+}
+join_4: {
+    *a0 = r7_0_0;
+    a0[1] = r7_3_0;
+    a0[2] = r7_6_0;
+    a0[16] = r7_9_0_0;
+    a0[17] = r7_9_2_0;
+    store16(a0 + 18, r7_9_3_0);
+    memcpy(a0 + 20, r0_4, 28);
+    store128(a0 + 48, r7_9_5_0);
+    memcpy(a0 + 64, r1_28, 16);
+    store64(a0 + 80, r7_9_7_0);
+    store64(a0 + 88, r7_9_8_0);
+    store64(a0 + 96, r7_9_9_0);
+    store64(a0 + 104, r7_9_10_0);
+    store64(a0 + 112, r7_9_11_0);
+    store64(a0 + 120, r7_9_12_0);
+    a0[128] = r7_9_13_0;
+    store64(a0 + 136, r7_9_15_0);
+    a0[144] = r7_9_16_0;
+    a0[145] = r7_9_17_0;
+    a0[146] = r7_9_18_0;
+    a0[147] = r7_9_19_0;
+    a0[148] = r7_9_20_0;
+    a0[160] = r7_11_0;
+    a0[161] = 1u;
+    a0[162] = 0u;
+    return;
+}
+}
+
+/* mmc_identify::identification::identify::<#1bed76fd314cf36e> */
+static void identification_identify(uint8_t *a0, uint8_t *a1)
+{
+    KELIFANDRO_ROOM uint8_t room[80];
+    uint8_t *const r21_38 = room;
+    uint8_t *const r34_4 = room;
+    uint8_t *const r2_3 = room;
+    uint8_t *const r1_1 = room;
+    uint8_t *const r1_25 = room;
+    uint8_t *const r1_9 = room;
+    uint8_t *const r1_3 = room;
+    uint8_t *const r1_4 = room;
+    uint8_t *const r1_8 = room;
+    uint8_t *const r0 = room;
+    uint8_t *const r0_2 = room;
+    uint8_t *const r6 = room;
+    uint8_t *const r1 = room;
+    uint8_t *const r17_4_2 = room;
+    uint8_t *const r2 = room + 8;
+    uint8_t *const r1_2 = room + 16;
+    uint8_t *const r5 = room + 16;
+    uint8_t *const r2_2 = room + 24;
+    uint8_t *const r12_8 = room + 40;
+    uint8_t *const r16 = room + 48;
+    uint8_t *const r17_7_2 = room + 56;
+    KELIFANDRO_ROOM uint8_t r7[16];
+    bool v0;
+    bool r43;
+    uint8_t r1_019;
+    uint8_t r1_025;
+    uint8_t r8_4_0_ph;
+    uint8_t r16_3_0_ph;
+    uint8_t r8_3_0_ph;
+    uint32_t r16_6_0;
+    uint8_t r14_4_0;
+    uint32_t r14_7_0;
+    uint8_t r1_2_1_12;
+    uint16_t r2_6_0_54;
+    uint32_t r4;
+    uint8_t r18_5_0_ph;
+    uint64_t r13;
+    uint64_t r2_010;
+    uint8_t r0_4_0_ph;
+    u128 r4_0_0_fr;
+    u128 r38_67;
+    uint8_t r24_0_0;
+    uint8_t r0_32_0;
+    uint8_t r0_12_0;
+    uint8_t r0_0_0;
+    u128 r0_39_0;
+    u128 r0_40_0;
+    uint8_t r49_pn_ph;
+    shared_go_idle(a1);
+    a1[88] = 0u;
+    a1[89] = 0u;
+    host_ask(r1, a1, 8u, 426u);
+    v0 = *r1 == 0u;
+    if (!v0) {
+        uint8_t r1_2_1 = r1[1];
+        if (r1_2_1 == 0u) {
+            goto arm_1;
+        }
+        r8_3_0_ph = 0u;
+        goto arm_2;
+    }
+    uint32_t r1_4_4 = load32_aligned(r1 + 4);
+    if ((uint32_t)(r1_4_4 & 4095u) == 426u) {
+        goto arm_1;
+    }
+    r8_3_0_ph = 1u;
+    goto arm_2;
+arm_1: {
+    struct of_i8_i8 r29 = sd_announce(a1);
+    uint8_t r38 = r29.f1;
+    if (r29.f0 != 0u) {
+        r8_3_0_ph = r38;
+        goto arm_2;
+    }
+    r43 = (r38 & 1u) != 0;
+    if (!r43) {
+        shared_go_idle(a1);
+        r1_019 = 0u;
+        goto join_5;
+    }
+    sd_inquire(r6, a1, v0);
+    if (*r6 != 0u) {
+        r16_3_0_ph = r6[1];
+        goto arm_9;
+    }
+    if (r6[4] == 1u) {
+        r16_6_0 = load32_aligned(r6 + 8);
+        goto arm_8;
+    }
+    r1_025 = 1u;
+    goto join_5_2;
+}
+join_5: {
+    host_ask_ocr(r1_2, a1, 1u, UINT32_C(0x40300000));
+    judging_inquired(r0, r1_2);
+    uint8_t v10 = *r0;
+    uint8_t v11 = r0[1];
+    uint8_t r10 = r0[4];
+    uint32_t v12 = load32_aligned(r0 + 8);
+    if (v10 != 0u) {
+        r8_3_0_ph = v11;
+        goto arm_2;
+    }
+    if (r10 == 1u) {
+        r14_4_0 = 1u;
+        r14_7_0 = v12;
+        goto arm_1_2;
+    }
+    if (r1_019 < 15u) {
+        r1_019 = (uint8_t)(r1_019 + 1u);
+        goto join_5;
+    }
+    r8_3_0_ph = 0u;
+    goto arm_2;
+}
+join_5_2: {
+    struct of_i8_i8 r14 = sd_announce(a1);
+    uint8_t r23 = r14.f1;
+    if (r14.f0 != 0u) {
+        r8_4_0_ph = r23;
+        goto mmc_identify_sd_inquire_again_1bed76fd314cf36e_exit_thread;
+    }
+    if (!((r23 & 1u) != 0)) {
+        r8_4_0_ph = 0u;
+        goto mmc_identify_sd_inquire_again_1bed76fd314cf36e_exit_thread;
+    }
+    sd_inquire(r0_2, a1, v0);
+    uint8_t v5 = *r0_2;
+    uint8_t v6 = r0_2[1];
+    uint8_t r69 = r0_2[4];
+    uint32_t v7 = load32_aligned(r0_2 + 8);
+    if (v5 != 0u) {
+        r16_3_0_ph = v6;
+        goto arm_9;
+    }
+    if (r69 == 1u) {
+        r16_6_0 = v7;
+        goto arm_8;
+    }
+    if (r1_025 < 15u) {
+        r1_025 = (uint8_t)(r1_025 + 1u);
+        goto join_5_2;
+    }
+    r16_3_0_ph = 0u;
+    goto arm_9;
+}
+mmc_identify_sd_inquire_again_1bed76fd314cf36e_exit_thread: {
+    r16_3_0_ph = r8_4_0_ph;
+}
+arm_9: {
+    r8_3_0_ph = r16_3_0_ph;
+}
+arm_2: {
+    *a0 = 1u;
+    a0[1] = r8_3_0_ph;
+    goto common_ret;
+}
+arm_8: {
+    r14_4_0 = 0u;
+    r14_7_0 = r16_6_0;
+}
+arm_1_2: {
+    host_ask_register(r1_8, a1, 2u, 0u);
+    if (*r1_8 != 0u) {
+        r18_5_0_ph = 0u;
+        goto arm_6;
+    }
+    r1_2_1_12 = r1_8[1];
+    memcpy(r12_8, r1_8 + 2, 15);
+    memcpy(r2_2, r12_8, 15);
+    if (!r43) {
+        host_ask(r1_3, a1, 3u, UINT32_C(0x10000));
+        uint8_t r1_0_0_13 = *r1_3;
+        if (r1_0_0_13 == 0u) {
+            r2_6_0_54 = 1u;
+            goto arm_5;
+        }
+        r18_5_0_ph = 0u;
+        goto arm_6;
+    }
+    host_ask(r1_4, a1, 3u, 0u);
+    bool v18 = *r1_4 == 0u;
+    uint32_t r302 = load32_aligned(r1_4 + 4) >> 16u;
+    if (v18 && (r302 != 0u)) {
+        r2_6_0_54 = (uint16_t)(v18 ? (uint16_t)r302 : 0u);
+        goto arm_5;
+    }
+    r18_5_0_ph = (uint8_t)(v18 ? 2u : 0u);
+    goto arm_6;
+}
+arm_5: {
+    r4 = (uint32_t)r2_6_0_54 << 16u;
+    host_ask_register(r1_9, a1, 9u, r4);
+    if (*r1_9 != 0u) {
+        r18_5_0_ph = 0u;
+        goto arm_6;
+    }
+    uint8_t r1_2_1_15 = r1_9[1];
+    memcpy(r12_8, r1_9 + 2, 15);
+    memcpy(r17_4_2, r2_2, 15);
+    memcpy(r17_7_2, r12_8, 15);
+    *r5 = r1_2_1_12;
+    memcpy(r5 + 1, r17_4_2, 15);
+    *r7 = r1_2_1_15;
+    memcpy(r7 + 1, r17_7_2, 15);
+    host_ask(r1_25, a1, 7u, r4);
+    uint32_t v24 = load32_aligned(r1_25 + 4);
+    bool v25 = *r1_25 == 0u;
+    if (!(v25 && ((v24 & UINT32_C(0x2000000)) == 0u))) {
+        r49_pn_ph = (uint8_t)(v25 ? 4u : 0u);
+        goto arm_9_2;
+    }
+    wait_count_polls(r1_1, a1);
+    uint8_t r1_0_0_32 = *r1_1;
+    uint64_t r1_4_8 = load64_aligned(r1_1 + 8);
+    if (r1_0_0_32 != 0u) {
+        r49_pn_ph = 0u;
+        goto arm_9_2;
+    }
+    r13 = 16u - r1_4_8;
+    if (r1_4_8 == 16u) {
+        r49_pn_ph = 0u;
+        goto arm_9_2;
+    }
+    r2_010 = 0u;
+    goto join_5_3;
+}
+arm_6: {
+    *a0 = 1u;
+    a0[1] = r18_5_0_ph;
+    goto common_ret;
+}
+join_5_3: {
+    host_ask(r2, a1, 13u, r4);
+    uint8_t v30 = *r2;
+    *r2_3 = v30;
+    r2_3[1] = r2[1];
+    uint32_t v32 = load32_aligned(r2 + 4);
+    store32_aligned(r2_3 + 4, v32);
+    if (v30 != 0u) {
+        r0_4_0_ph = 0u;
+        goto mmc_identify_shared_ask_status_1bed76fd314cf36e_exit_thread;
+    }
+    if (!((v32 & UINT32_C(0x2000000)) == 0u)) {
+        r0_4_0_ph = 4u;
+        goto mmc_identify_shared_ask_status_1bed76fd314cf36e_exit_thread;
+    }
+    struct of_i8_i8 r42 = status_check_closing(r14_4_0, r2_3);
+    if (r42.f0 != 0u) {
+        r49_pn_ph = 0u;
+        goto arm_9_2;
+    }
+    if (r42.f1 != 0u) {
+        uint64_t r44 = r2_010 + 1u;
+        if (r44 == r13) {
+            r49_pn_ph = 0u;
+            goto arm_9_2;
+        }
+        r2_010 = r44;
+        goto join_5_3;
+    }
+    cid_read_cid(r16, r5);
+    if (*r16 != 0u) {
+        r0_32_0 = 0u; /* any */
+        r0_12_0 = 2u;
+        r0_0_0 = 1u;
+        r0_39_0 = u128_of(0u, 0u); /* any */
+        r0_40_0 = u128_of(0u, 0u); /* any */
+        goto mmc_identify_judging_found_exit;
+    }
+    csd_read_csd(r21_38, r14_4_0, r7);
+    if (*r21_38 != 0u) {
+        r0_32_0 = 0u; /* any */
+        r0_12_0 = 2u;
+        r0_0_0 = 1u;
+        r0_39_0 = u128_of(0u, 0u); /* any */
+        r0_40_0 = u128_of(0u, 0u); /* any */
+        goto mmc_identify_judging_found_exit;
+    }
+    uint8_t r6_2 = r21_38[16];
+    r4_0_0_fr = load128_aligned(r21_38 + 32);
+    r38_67 = u128_of(0u, r6_2);
+    if (r43) {
+        bool r9_not = (r14_7_0 & UINT32_C(0x40000000)) == 0u;
+        switch (r6_2) {
+        default: {
+            trap();
+            return;
+        }
+        case 0u: {
+            if (r9_not) {
+                r24_0_0 = 0u;
+                goto join_10;
+            }
+            r0_32_0 = 0u; /* any */
+            r0_12_0 = 3u;
+            r0_0_0 = 1u;
+            r0_39_0 = u128_of(0u, 0u); /* any */
+            r0_40_0 = u128_of(0u, 0u); /* any */
+            goto mmc_identify_judging_found_exit;
+        }
+        case 1u: {
+            if (r9_not) {
+                r0_32_0 = 0u; /* any */
+                r0_12_0 = 3u;
+                r0_0_0 = 1u;
+                r0_39_0 = u128_of(0u, 0u); /* any */
+                r0_40_0 = u128_of(0u, 0u); /* any */
+                goto mmc_identify_judging_found_exit;
+            }
+            r24_0_0 = 1u;
+            goto join_10;
+        }
+        case 2u: {
+            r0_32_0 = 0u; /* any */
+            r0_12_0 = 3u;
+            r0_0_0 = 1u;
+            r0_39_0 = u128_of(0u, 0u); /* any */
+            r0_40_0 = u128_of(0u, 0u); /* any */
+            goto mmc_identify_judging_found_exit;
+        }
+        }
+    }
+    switch ((uint8_t)((uint8_t)(r14_7_0 >> 29u) & 3u)) {
+    default: {
+        r0_32_0 = 0u; /* any */
+        r0_12_0 = 3u;
+        r0_0_0 = 1u;
+        r0_39_0 = u128_of(0u, 0u); /* any */
+        r0_40_0 = u128_of(0u, 0u); /* any */
+        goto mmc_identify_judging_found_exit;
+    }
+    case 0u: {
+        if (r6_2 != 2u) {
+            r0_32_0 = 0u; /* any */
+            r0_12_0 = 2u;
+            r0_0_0 = 1u;
+            r0_39_0 = u128_of(0u, 0u); /* any */
+            r0_40_0 = u128_of(0u, 0u); /* any */
+            goto mmc_identify_judging_found_exit;
+        }
+        if ((uint8_t)((uint8_t)((uint8_t)u128_lshr(r4_0_0_fr, 80u).lo & 15u) + 247u) < 3u) {
+            r24_0_0 = 0u;
+            goto join_10;
+        }
+        r0_32_0 = 0u; /* any */
+        r0_12_0 = 2u;
+        r0_0_0 = 1u;
+        r0_39_0 = u128_of(0u, 0u); /* any */
+        r0_40_0 = u128_of(0u, 0u); /* any */
+        goto mmc_identify_judging_found_exit;
+    }
+    case 2u: {
+        r24_0_0 = 1u;
+        goto join_10;
+    }
+    }
+}
+mmc_identify_shared_ask_status_1bed76fd314cf36e_exit_thread: {
+    r49_pn_ph = r0_4_0_ph;
+    goto arm_9_2;
+}
+join_10: {
+    memcpy(r34_4 + 12, r16 + 16, 16);
+    r0_32_0 = r24_0_0;
+    r0_12_0 = 0u; /* any */
+    r0_0_0 = 0u;
+    r0_39_0 = r38_67;
+    r0_40_0 = r4_0_0_fr;
+}
+mmc_identify_judging_found_exit: {
+    *a0 = r0_0_0;
+    a0[1] = r0_12_0;
+    a0[16] = r14_4_0;
+    a0[17] = r0_32_0;
+    store16(a0 + 18, r2_6_0_54);
+    memcpy(a0 + 20, r34_4, 28);
+    store128(a0 + 48, r0_39_0);
+    store128(a0 + 64, r0_40_0);
+    goto common_ret;
+}
+arm_9_2: {
+    *a0 = 1u;
+    a0[1] = r49_pn_ph;
+}
+common_ret: {
+    return;
+}
+}
+
+/* mmc_identify::shared::go_idle::<#1bed76fd314cf36e> */
+static void shared_go_idle(uint8_t *a0)
+{
+    KELIFANDRO_ROOM uint8_t r0[18];
+    KELIFANDRO_ROOM uint8_t r2[6];
+    frame_framed(r2, 64u, 0u);
+    HostBusBus_command(r0, a0, r2, 0u);
+    return;
+}
+
+/* mmc_frame::frame::framed */
+static void frame_framed(uint8_t *a0, uint8_t a1, uint32_t a2)
+{
+    KELIFANDRO_ROOM uint8_t r17[5];
+    uint32_t r4_0_0_insert_insert;
+    uint8_t r3_05;
+    uint64_t r4_04;
+    r4_0_0_insert_insert = bswap32(a2);
+    *r17 = a1;
+    store32(r17 + 1, r4_0_0_insert_insert);
+    r3_05 = 0u;
+    r4_04 = 0u;
+join_6: {
+    uint8_t r18 = *at((uint8_t *)bytes_static_0, (uint64_t)(uint8_t)(*at(r17, r4_04) ^ (uint8_t)((uint32_t)r3_05 << 1u)));
+    uint64_t r28 = r4_04 + 1u;
+    if (r28 != 5u) {
+        r3_05 = r18;
+        r4_04 = r28;
+        goto join_6;
+    }
+    *a0 = a1;
+    store32(a0 + 1, r4_0_0_insert_insert);
+    a0[5] = (uint8_t)((uint8_t)((uint32_t)r18 << 1u) | 1u);
+    return;
+}
+}
+
+/* mmc_host::host_bus::HostBusBus::command::<#d568f3fc8d51bff2> */
+static void HostBusBus_command(uint8_t *a0, uint8_t *a1, uint8_t *a2, uint8_t a3)
+{
+    KELIFANDRO_ROOM uint8_t r0[18];
+    KELIFANDRO_ROOM uint8_t r1[6];
+    memcpy(r1, a2, 6);
+    HostBusBus_begin(r0, a1, r1, a3, 65535u);
+    *a0 = *r0;
+    memcpy(a0 + 1, r0 + 1, 17);
+    return;
+}
+
+/* mmc_host::host_bus::HostBusBus::begin::<#d568f3fc8d51bff2> */
+static void HostBusBus_begin(uint8_t *a0, uint8_t *a1, uint8_t *a2, uint8_t a3, uint16_t a4)
+{
+    KELIFANDRO_ROOM uint8_t room[76];
+    uint8_t *const r2 = room;
+    uint8_t *const r4_2 = room;
+    uint8_t *const r12 = room;
+    uint8_t *const r11 = room;
+    uint8_t *const r22 = room;
+    uint8_t *const r4 = room;
+    uint8_t *const r5 = room;
+    uint8_t *const r11_2 = room;
+    uint8_t *const r0 = room + 24;
+    uint8_t *const r5_2 = room + 24;
+    uint8_t *const r1 = room + 24;
+    uint8_t *const r0_2 = room + 24;
+    uint8_t *const r12_2 = room + 40;
+    uint8_t *const r4_14 = room + 48;
+    uint8_t *const r21 = room + 48;
+    uint8_t *const r4_5 = room + 48;
+    KELIFANDRO_ROOM uint8_t r13_2[16];
+    KELIFANDRO_ROOM uint8_t r3_2[16];
+    KELIFANDRO_ROOM uint8_t r3[6];
+    KELIFANDRO_ROOM uint8_t r3_10[3];
+    bool r23_not_3;
+    uint8_t r1_0_0;
+    bool spec_select;
+    uint8_t r4_2_0;
+    uint8_t r5_2_0;
+    uint8_t r5_0_0_2;
+    uint8_t a1_2;
+    uint8_t r29;
+    bool r43;
+    uint32_t r1_413_0;
+    uint8_t r1_5_0;
+    uint8_t r1_620_0;
+    uint16_t r1_725_0;
+    uint16_t r1_8_0;
+    uint8_t r11_41_0_off0;
+    uint8_t r11_41_0_off8;
+    uint8_t r11_7_0_off0;
+    uint8_t r11_7_0_off8;
+    uint8_t r4_0_0_2;
+    uint8_t r4_5_0;
+    uint8_t r4_10_0;
+    uint8_t r0_4_4;
+    uint8_t r0_2_1;
+    uint8_t r0_0_0;
+    uint32_t r8_6_2_0;
+    uint64_t r8_6_3_0;
+    uint32_t common_ret_op;
+    uint8_t r4_0_0;
+    memcpy(r3, a2, 6);
+    command_read_command(r4, a2);
+    if (*r4 != 1u) {
+        a1[180] = 1u;
+        r4_0_0 = 0u;
+        goto mmc_host_host_bus_HostBus_carry_d568f3fc8d51bff2_exit;
+    }
+    uint8_t r13 = r4[4];
+    uint32_t r16 = load32_aligned(r4 + 8);
+    memcpy(r5, a1 + 144, 36);
+    HostState_command(r3_2, r5, r13, r16, umax16(a4, 1u));
+    if (r13 > 63u) {
+        goto join_9;
+    }
+    r23_not_3 = a1[152] == 0u;
+    if (!((r3_2[10] == 0u) || r23_not_3)) {
+        goto join_9;
+    }
+    r1_0_0 = *r3_2;
+    spec_select = ((a1[147] & 1u) != 0) || (r1_0_0 == 0u);
+    r4_2_0 = a1[89];
+    uint8_t r5_0_0 = a1[90];
+    r5_2_0 = a1[91];
+    switch (a1[88]) {
+    default: {
+        trap();
+        return;
+    }
+    case 0u: {
+        goto after_2;
+    }
+    case 1u: {
+        if (r5_0_0 == 0u) {
+            goto after_2;
+        }
+        r5_0_0_2 = 1u;
+        goto mmc_host_limits_limited_exit;
+    }
+    case 2u: {
+        r5_0_0_2 = r5_0_0;
+        goto mmc_host_limits_limited_exit;
+    }
+    }
+after_2: {
+    r5_0_0_2 = 0u;
+}
+mmc_host_limits_limited_exit: {
+    a1_2 = (uint8_t)((r4_2_0 == 0u) ? 0u : r5_2_0);
+    r29 = (uint8_t)spec_select;
+    if (a1[146] != r29) {
+        goto then_2;
+    }
+    if (r5_0_0_2 != a1[144]) {
+        goto then_2;
+    }
+    if ((a1_2 != a1[145]) && r23_not_3) {
+        goto then_5;
+    }
+    goto mmc_host_host_bus_HostBus_set_ios_d568f3fc8d51bff2_exit;
+}
+then_2: {
+    if (r23_not_3) {
+        goto then_5;
+    }
+    goto mmc_host_host_bus_HostBus_set_ios_d568f3fc8d51bff2_exit;
+}
+then_5: {
+    *r12 = r5_0_0_2;
+    r12[1] = a1_2;
+    r12[2] = r29;
+    WayHost_set_ios(a1, r12);
+    *r12 = r5_0_0_2;
+    r12[1] = a1_2;
+    r12[2] = r29;
+    memcpy(a1 + 144, r12, 3);
+}
+mmc_host_host_bus_HostBus_set_ios_d568f3fc8d51bff2_exit: {
+    r43 = (a1[148] & 1u) != 0;
+    *r1 = r1_0_0;
+    memcpy(r1 + 1, r3_2 + 1, 15);
+    if (*a1 != 0u) {
+        SdhciHost_send(r4_2, a1 + 4, r1);
+        r0_4_4 = r4_2[4];
+        r0_2_1 = r4_2[1];
+        r0_0_0 = *r4_2;
+        goto c_host_way_WayHost_send_b4302b8119c90b07_exit;
+    }
+    r1_413_0 = load32_aligned(r1 + 4);
+    r1_5_0 = r1[8];
+    r1_620_0 = r1[10];
+    r1_725_0 = load16_aligned(r1 + 12);
+    r1_8_0 = load16_aligned(r1 + 14);
+    switch (r1_0_0) {
+    default: {
+        goto join_3;
+    }
+    case 1u: {
+        if ((a1[12] & 1u) != 0) {
+            goto join_3;
+        }
+        r4_0_0_2 = 1u;
+        r4_5_0 = 0u;
+        r4_10_0 = 0u; /* any */
+        goto mmc_story_host_StoryHostHost_send_051560a3ce3af2be_exit;
+    }
+    case 41u: {
+        if ((a1[11] & 1u) != 0) {
+            goto join_3;
+        }
+        r4_0_0_2 = 1u;
+        r4_5_0 = 0u;
+        r4_10_0 = 0u; /* any */
+        goto mmc_story_host_StoryHostHost_send_051560a3ce3af2be_exit;
+    }
+    }
+}
+join_3: {
+    memset(r2, 0u, 24);
+    switch (r1_620_0) {
+    default: {
+        trap();
+        return;
+    }
+    case 0u: {
+        r11_41_0_off0 = r1_620_0;
+        r11_41_0_off8 = r1_620_0;
+        r11_7_0_off0 = r1_620_0;
+        r11_7_0_off8 = r1_620_0;
+        goto c_host_stream_Stream_send_exit;
+    }
+    case 1u: {
+        r11_41_0_off0 = (uint8_t)r1_725_0;
+        r11_41_0_off8 = (uint8_t)(uint16_t)((uint32_t)r1_725_0 >> 8u);
+        r11_7_0_off0 = (uint8_t)r1_8_0;
+        r11_7_0_off8 = (uint8_t)(uint16_t)((uint32_t)r1_8_0 >> 8u);
+        goto c_host_stream_Stream_send_exit;
+    }
+    case 2u: {
+        r11_41_0_off0 = 0u;
+        r11_41_0_off8 = 2u;
+        r11_7_0_off0 = (uint8_t)r1_725_0;
+        r11_7_0_off8 = (uint8_t)(uint16_t)((uint32_t)r1_725_0 >> 8u);
+        goto c_host_stream_Stream_send_exit;
+    }
+    }
+}
+c_host_stream_Stream_send_exit: {
+    *r5_2 = 1u;
+    r5_2[1] = r1_0_0;
+    r5_2[2] = r1_5_0;
+    r5_2[3] = r1_620_0;
+    store32_aligned(r5_2 + 4, r1_413_0);
+    r5_2[8] = r11_41_0_off0;
+    r5_2[9] = r11_41_0_off8;
+    r5_2[10] = r11_7_0_off0;
+    r5_2[11] = r11_7_0_off8;
+    Stream_ask(a1 + 4, r5_2, 12u, r2, 24u);
+    records_heard_by(r0, r1_5_0, r2);
+    uint8_t v4 = *r0;
+    uint8_t v5 = r0[1];
+    uint8_t v6 = r0[4];
+    memcpy(r4_14, r0 + 5, 15);
+    r4_0_0_2 = v4;
+    r4_5_0 = v5;
+    r4_10_0 = v6;
+}
+mmc_story_host_StoryHostHost_send_051560a3ce3af2be_exit: {
+    memcpy(r4_2 + 5, r4_14, 15);
+    r0_4_4 = r4_10_0;
+    r0_2_1 = r4_5_0;
+    r0_0_0 = r4_0_0_2;
+}
+c_host_way_WayHost_send_b4302b8119c90b07_exit: {
+    memcpy(r3_10, r4_2 + 5, 3);
+    r8_6_2_0 = load32_aligned(r4_2 + 8);
+    r8_6_3_0 = load64(r4_2 + 12);
+    memcpy(r12_2, a1 + 144, 36);
+    *r13_2 = r1_0_0;
+    memcpy(r13_2 + 1, r3_2 + 1, 15);
+    bool v7 = r0_0_0 == 0u;
+    HostState_sent(r11, r12_2, r13_2, v7);
+    memcpy(a1 + 144, r11, 36);
+    if (!(v7 && (r0_4_4 == 1u))) {
+        goto mmc_host_host_bus_HostBus_send_d568f3fc8d51bff2_exit;
+    }
+    switch (r1_0_0) {
+    default: {
+        goto mmc_host_host_bus_HostBus_send_d568f3fc8d51bff2_exit;
+    }
+    case 1u: {
+        if ((r8_6_2_0 ^ UINT32_C(0x80000000)) > UINT32_C(0x7fffffff)) {
+            common_ret_op = 64000u;
+            goto then_1;
+        }
+        goto mmc_host_host_bus_HostBus_send_d568f3fc8d51bff2_exit;
+    }
+    case 41u: {
+        if (r43 && ((r8_6_2_0 ^ UINT32_C(0x80000000)) > UINT32_C(0x7fffffff))) {
+            common_ret_op = 64000u;
+            goto then_1;
+        }
+        goto mmc_host_host_bus_HostBus_send_d568f3fc8d51bff2_exit;
+    }
+    case 13u: {
+        uint32_t r9 = (uint32_t)(r8_6_2_0 >> 9u) & 15u;
+        if ((r9 == 7u) || (((uint32_t)(r8_6_2_0 & 256u) == 0u) && (r9 == 4u))) {
+            common_ret_op = 32000u;
+            goto then_1;
+        }
+        goto mmc_host_host_bus_HostBus_send_d568f3fc8d51bff2_exit;
+    }
+    }
+}
+then_1: {
+    uint8_t r4_3 = *a1;
+    Stream_pause(a1 + 4, common_ret_op);
+    if (r4_3 == 0u) {
+        goto c_host_way_WayHost_pause_b4302b8119c90b07_exit;
+    }
+    store32_aligned(a1 + 68, common_ret_op);
+}
+c_host_way_WayHost_pause_b4302b8119c90b07_exit: {
+    store32_aligned(a1 + 176, common_ret_op);
+}
+mmc_host_host_bus_HostBus_send_d568f3fc8d51bff2_exit: {
+    *r21 = r1_0_0;
+    memcpy(r21 + 1, r3_2 + 1, 15);
+    *r22 = r0_0_0;
+    r22[1] = r0_2_1;
+    r22[4] = r0_4_4;
+    memcpy(r22 + 5, r3_10, 3);
+    store32_aligned(r22 + 8, r8_6_2_0);
+    store64(r22 + 12, r8_6_3_0);
+    replies_spelled(r0_2, r21, r22);
+    uint8_t v11 = *r0_2;
+    memcpy(r4_5, r0_2 + 1, 17);
+    r4_0_0 = v11;
+    goto mmc_host_host_bus_HostBus_carry_d568f3fc8d51bff2_exit;
+}
+join_9: {
+    a1[180] = 1u;
+    r4_0_0 = 0u;
+}
+mmc_host_host_bus_HostBus_carry_d568f3fc8d51bff2_exit: {
+    memcpy(r11_2 + 1, r3, 6);
+    *r11_2 = 0u;
+    r11_2[7] = a3;
+    r11_2[8] = r4_0_0;
+    memcpy(r11_2 + 9, r4_5, 17);
+    Wire_note(a1 + 88, r11_2);
+    *a0 = r4_0_0;
+    memcpy(a0 + 1, r4_5, 17);
+    return;
+}
+}
+
+/* mmc_frame::command::read_command */
+static void command_read_command(uint8_t *a0, uint8_t *a1)
+{
+    uint8_t r20 = *a1;
+    if (!((uint8_t)(r20 & 192u) == 64u)) {
+        goto join_5;
+    }
+    if ((uint8_t)(a1[5] & 1u) == 0u) {
+        goto join_5;
+    }
+    bool r46 = frame_is_sound_frame(a1);
+    if (!r46) {
+        store32(a0, 0u);
+        goto common_ret;
+    }
+    uint32_t r15 = load32(a1 + 1);
+    store32(a0, 1u);
+    a0[4] = (uint8_t)(r20 & 63u);
+    store32(a0 + 8, bswap32(r15));
+    goto common_ret;
+join_5: {
+    store32(a0, 0u);
+}
+common_ret: {
+    return;
+}
+}
+
+/* mmc_frame::frame::is_sound_frame */
+static bool frame_is_sound_frame(uint8_t *a0)
+{
+    uint8_t r3_05;
+    uint64_t r4_04;
+    r3_05 = 0u;
+    r4_04 = 0u;
+join_6: {
+    uint8_t r18 = *at((uint8_t *)bytes_static_0, (uint64_t)(uint8_t)(*at(a0, r4_04) ^ (uint8_t)((uint32_t)r3_05 << 1u)));
+    uint64_t r28 = r4_04 + 1u;
+    if (r28 != 5u) {
+        r3_05 = r18;
+        r4_04 = r28;
+        goto join_6;
+    }
+    return r18 == (uint8_t)((uint32_t)a0[5] >> 1u);
+}
+}
+
+/* mmc_host::told::HostState::command */
+static void HostState_command(uint8_t *a0, uint8_t *a1, uint8_t a2, uint32_t a3, uint16_t a4)
+{
+    uint8_t r2_0_0_44;
+    uint16_t r2_15_0;
+    uint8_t r2_0_0_10;
+    uint16_t r2_8_7_0;
+    uint16_t r1_22_0 = load16(a1 + 6);
+    bool r7 = (a1[4] & 1u) != 0;
+    switch (a2) {
+    default: {
+        goto after_2;
+    }
+    case 0u: {
+        r2_0_0_44 = 0u;
+        r2_15_0 = 0u; /* any */
+        r2_0_0_10 = 0u;
+        r2_8_7_0 = 0u; /* any */
+        goto mmc_host_data_data_of_exit;
+    }
+    case 1u: {
+        r2_0_0_44 = 4u;
+        r2_15_0 = 0u; /* any */
+        r2_0_0_10 = 0u;
+        r2_8_7_0 = 0u; /* any */
+        goto mmc_host_data_data_of_exit;
+    }
+    case 2u:
+    case 9u: {
+        r2_0_0_44 = 3u;
+        r2_15_0 = 0u; /* any */
+        r2_0_0_10 = 0u;
+        r2_8_7_0 = 0u; /* any */
+        goto mmc_host_data_data_of_exit;
+    }
+    case 3u: {
+        r2_0_0_44 = (uint8_t)((a3 == 0u) ? 5u : 1u);
+        r2_15_0 = 0u; /* any */
+        r2_0_0_10 = 0u;
+        r2_8_7_0 = 0u; /* any */
+        goto mmc_host_data_data_of_exit;
+    }
+    case 6u: {
+        if (r7) {
+            r2_0_0_44 = 1u;
+            r2_15_0 = 0u; /* any */
+            r2_0_0_10 = 0u;
+            r2_8_7_0 = 0u; /* any */
+            goto mmc_host_data_data_of_exit;
+        }
+        if ((a3 & UINT32_C(0x3000000)) == 0u) {
+            r2_0_0_44 = 1u;
+            r2_15_0 = 1u;
+            r2_0_0_10 = 1u;
+            r2_8_7_0 = 64u;
+            goto mmc_host_data_data_of_exit;
+        }
+        r2_0_0_44 = 2u;
+        r2_15_0 = 0u; /* any */
+        r2_0_0_10 = 0u;
+        r2_8_7_0 = 0u; /* any */
+        goto mmc_host_data_data_of_exit;
+    }
+    case 7u:
+    case 12u:
+    case 38u: {
+        r2_0_0_44 = 2u;
+        r2_15_0 = 0u; /* any */
+        r2_0_0_10 = 0u;
+        r2_8_7_0 = 0u; /* any */
+        goto mmc_host_data_data_of_exit;
+    }
+    case 8u: {
+        if (a3 != 0u) {
+            r2_0_0_44 = 6u;
+            r2_15_0 = 0u; /* any */
+            r2_0_0_10 = 0u;
+            r2_8_7_0 = 0u; /* any */
+            goto mmc_host_data_data_of_exit;
+        }
+        r2_0_0_44 = 1u;
+        r2_15_0 = 1u;
+        r2_0_0_10 = 1u;
+        r2_8_7_0 = 512u;
+        goto mmc_host_data_data_of_exit;
+    }
+    case 13u:
+    case 16u:
+    case 23u:
+    case 32u:
+    case 35u:
+    case 33u:
+    case 36u:
+    case 55u: {
+        r2_0_0_44 = 1u;
+        r2_15_0 = 0u; /* any */
+        r2_0_0_10 = 0u;
+        r2_8_7_0 = 0u; /* any */
+        goto mmc_host_data_data_of_exit;
+    }
+    case 17u: {
+        r2_0_0_44 = 1u;
+        r2_15_0 = 1u;
+        r2_0_0_10 = 1u;
+        r2_8_7_0 = 512u;
+        goto mmc_host_data_data_of_exit;
+    }
+    case 18u: {
+        r2_0_0_44 = 1u;
+        r2_15_0 = (uint16_t)((r1_22_0 == 0u) ? a4 : r1_22_0);
+        r2_0_0_10 = 1u;
+        r2_8_7_0 = 512u;
+        goto mmc_host_data_data_of_exit;
+    }
+    case 24u: {
+        r2_0_0_44 = 1u;
+        r2_15_0 = 0u; /* any */
+        r2_0_0_10 = 2u;
+        r2_8_7_0 = 1u;
+        goto mmc_host_data_data_of_exit;
+    }
+    case 25u: {
+        r2_0_0_44 = 1u;
+        r2_15_0 = 0u; /* any */
+        r2_0_0_10 = 2u;
+        r2_8_7_0 = (uint16_t)((r1_22_0 == 0u) ? a4 : r1_22_0);
+        goto mmc_host_data_data_of_exit;
+    }
+    case 41u: {
+        if (r7) {
+            r2_0_0_44 = 4u;
+            r2_15_0 = 0u; /* any */
+            r2_0_0_10 = 0u;
+            r2_8_7_0 = 0u; /* any */
+            goto mmc_host_data_data_of_exit;
+        }
+        goto after_2;
+    }
+    case 51u: {
+        if (r7) {
+            r2_0_0_44 = 1u;
+            r2_15_0 = 1u;
+            r2_0_0_10 = 1u;
+            r2_8_7_0 = 8u;
+            goto mmc_host_data_data_of_exit;
+        }
+        goto after_2;
+    }
+    }
+after_2: {
+    r2_0_0_44 = 1u;
+    r2_15_0 = 0u; /* any */
+    r2_0_0_10 = 0u;
+    r2_8_7_0 = 0u; /* any */
+}
+mmc_host_data_data_of_exit: {
+    *a0 = a2;
+    store32(a0 + 4, a3);
+    a0[8] = r2_0_0_44;
+    store16(a0 + 10, (uint16_t)r2_0_0_10);
+    store16(a0 + 12, r2_8_7_0);
+    store16(a0 + 14, r2_15_0);
+    return;
+}
+}
+
+/* c_host::way::WayHost::set_ios::<#b4302b8119c90b07> */
+static void WayHost_set_ios(uint8_t *a0, uint8_t *a1)
+{
+    KELIFANDRO_ROOM uint8_t r0[3];
+    uint8_t r0_0_0 = *a1;
+    uint8_t r0_3_0 = a1[1];
+    uint8_t r0_4_0 = a1[2];
+    if (*a0 == 0u) {
+        *r0 = r0_0_0;
+        r0[1] = r0_3_0;
+        r0[2] = r0_4_0;
+        CFunctionsHost_set_ios(a0 + 4, r0);
+        goto join_4;
+    }
+    uint32_t r9 = load32_aligned(a0 + 76);
+    uint8_t r11 = a0[80];
+    bool v1 = r0_3_0 == 0u;
+    StoryRegistersRegisters_write8(a0 + 4, 40u, (uint8_t)((uint8_t)(v1 ? 0u : 4u) | (uint8_t)((uint32_t)UINT32_C(0x200200) >> ((((uint32_t)r0_0_0 << 3u) & UINT32_C(0xffffff)) & 31u))));
+    clock_set_clock(a0 + 4, r9, r11, ((r0_4_0 & 1u) != 0) ? UINT32_C(0x61a80) : (v1 ? UINT32_C(0x17d7840) : UINT32_C(0x2faf080)));
+    a0[36] = r0_0_0;
+    a0[37] = r0_3_0;
+    a0[38] = r0_4_0;
+    a0[72] = 1u;
+join_4: {
+    return;
+}
+}
+
+/* c_host::records::heard_by */
+static void records_heard_by(uint8_t *a0, uint8_t a1, uint8_t *a2)
+{
+    uint8_t r17_7_0_0;
+    uint8_t r17_7_2_0;
+    uint8_t r17_7_3_0;
+    uint32_t r17_7_4_0;
+    uint64_t r17_7_5_0;
+    uint8_t r17_3_0;
+    uint8_t r17_0_0;
+    uint8_t r17_5_0;
+    switch (load32(a2 + 20)) {
+    default: {
+        r17_7_0_0 = 0u; /* any */
+        r17_7_2_0 = 0u; /* any */
+        r17_7_3_0 = 0u; /* any */
+        r17_7_4_0 = 0u; /* any */
+        r17_7_5_0 = 0u; /* any */
+        r17_3_0 = 0u;
+        r17_0_0 = 1u;
+        r17_5_0 = 0u; /* any */
+        goto join_3;
+    }
+    case 0u: {
+        switch (a1) {
+        default: {
+            trap();
+            return;
+        }
+        case 0u: {
+            r17_7_0_0 = 0u; /* any */
+            r17_7_2_0 = 0u; /* any */
+            r17_7_3_0 = 0u; /* any */
+            r17_7_4_0 = 0u; /* any */
+            r17_7_5_0 = 0u; /* any */
+            r17_3_0 = 0u; /* any */
+            r17_0_0 = a1;
+            r17_5_0 = a1;
+            goto join_3;
+        }
+        case 3u: {
+            uint32_t r3_6_3_insert_insert = (((uint32_t)a2[7] << 8u) | (uint32_t)*a2) | ((uint32_t)a2[6] << 16u);
+            uint64_t r3_15_7_insert_insert = (((uint64_t)a2[11] << 8u) | (uint64_t)a2[4]) | ((uint64_t)a2[10] << 16u);
+            uint64_t r3_11_7_insert_mask = ((r3_15_7_insert_insert | ((uint64_t)a2[9] << 24u)) | ((uint64_t)a2[8] << 32u)) | ((uint64_t)a2[15] << 40u);
+            r17_7_0_0 = a2[3];
+            r17_7_2_0 = a2[2];
+            r17_7_3_0 = a2[1];
+            r17_7_4_0 = r3_6_3_insert_insert | ((uint32_t)a2[5] << 24u);
+            r17_7_5_0 = (r3_11_7_insert_mask | ((uint64_t)a2[14] << 48u)) | ((uint64_t)a2[13] << 56u);
+            r17_3_0 = 0u; /* any */
+            r17_0_0 = 0u;
+            r17_5_0 = 2u;
+            goto join_3;
+        }
+        case 1u:
+        case 2u:
+        case 4u:
+        case 5u:
+        case 6u: {
+            r17_7_0_0 = 0u; /* any */
+            r17_7_2_0 = 0u; /* any */
+            r17_7_3_0 = 0u; /* any */
+            r17_7_4_0 = load32(a2);
+            r17_7_5_0 = 0u; /* any */
+            r17_3_0 = 0u; /* any */
+            r17_0_0 = 0u;
+            r17_5_0 = 1u;
+            goto join_3;
+        }
+        }
+    }
+    case 2u: {
+        r17_7_0_0 = 0u; /* any */
+        r17_7_2_0 = 0u; /* any */
+        r17_7_3_0 = 0u; /* any */
+        r17_7_4_0 = 0u; /* any */
+        r17_7_5_0 = 0u; /* any */
+        r17_3_0 = 1u;
+        r17_0_0 = 1u;
+        r17_5_0 = 0u; /* any */
+        goto join_3;
+    }
+    case 3u: {
+        r17_7_0_0 = 0u; /* any */
+        r17_7_2_0 = 0u; /* any */
+        r17_7_3_0 = 0u; /* any */
+        r17_7_4_0 = 0u; /* any */
+        r17_7_5_0 = 0u; /* any */
+        r17_3_0 = 2u;
+        r17_0_0 = 1u;
+        r17_5_0 = 0u; /* any */
+        goto join_3;
+    }
+    case 4u: {
+        r17_7_0_0 = 0u; /* any */
+        r17_7_2_0 = 0u; /* any */
+        r17_7_3_0 = 0u; /* any */
+        r17_7_4_0 = 0u; /* any */
+        r17_7_5_0 = 0u; /* any */
+        r17_3_0 = 3u;
+        r17_0_0 = 1u;
+        r17_5_0 = 0u; /* any */
+        goto join_3;
+    }
+    }
+join_3: {
+    *a0 = r17_0_0;
+    a0[1] = r17_3_0;
+    a0[4] = r17_5_0;
+    a0[5] = r17_7_0_0;
+    a0[6] = r17_7_2_0;
+    a0[7] = r17_7_3_0;
+    store32(a0 + 8, r17_7_4_0);
+    store64(a0 + 12, r17_7_5_0);
+    return;
+}
+}
+
+/* mmc_sdhci::sdhci::SdhciHost::send::<#d002fd087b3dc1c2> */
+static void SdhciHost_send(uint8_t *a0, uint8_t *a1, uint8_t *a2)
+{
+    KELIFANDRO_ROOM uint8_t room[36];
+    uint8_t *const r5 = room;
+    uint8_t *const r7 = room;
+    KELIFANDRO_ROOM uint8_t r8[36];
+    KELIFANDRO_ROOM uint8_t r3[20];
+    KELIFANDRO_ROOM uint8_t r1[16];
+    memcpy(r1, a2, 16);
+    store16_aligned(r5, (uint16_t)a1[40]);
+    store16_aligned(r5 + 2, load16(a1 + 42));
+    store16_aligned(r5 + 4, load16(a1 + 44));
+    command_send(r3, a1, r5, r1, 0u);
+    uint8_t v2 = *r3;
+    uint8_t v3 = r3[1];
+    uint8_t v4 = r3[4];
+    memcpy(r8, a1 + 32, 36);
+    HostState_sent(r7, r8, r1, v2 == 0u);
+    memcpy(a1 + 32, r7, 36);
+    *a0 = v2;
+    a0[1] = v3;
+    a0[4] = v4;
+    memcpy(a0 + 5, r3 + 5, 15);
+    return;
+}
+
+/* mmc_sdhci::command::send::<#d002fd087b3dc1c2> */
+static void command_send(uint8_t *a0, uint8_t *a1, uint8_t *a2, uint8_t *a3, uint8_t a4)
+{
+    uint8_t r8_0_0;
+    uint8_t r8_3_0;
+    uint8_t r8_539_0;
+    bool not;
+    uint32_t r10_0;
+    uint32_t r59;
+    uint32_t r1_08;
+    uint32_t r2_8_5_0;
+    uint32_t r2_8_4_0;
+    uint32_t r2_8_3_0;
+    uint32_t r2_8_0_0;
+    uint8_t r2_20_0;
+    uint8_t r2_19_0;
+    uint8_t r2_18_0;
+    uint8_t r2_17_0;
+    uint8_t r2_16_0;
+    uint8_t r2_15_0;
+    uint8_t r2_14_0;
+    uint8_t r2_13_0;
+    uint8_t r2_7_0;
+    uint8_t r2_6_0;
+    uint8_t r2_4_0;
+    uint8_t r2_0_0;
+    uint32_t common_ret_op_70;
+    uint8_t r4_0_0;
+    uint64_t sink;
+    uint8_t r2_20_0_sink;
+    r8_0_0 = *a3;
+    uint32_t r8_238_0 = load32(a3 + 4);
+    r8_3_0 = a3[8];
+    r8_539_0 = a3[10];
+    uint16_t r8_640_0 = load16(a3 + 12);
+    uint16_t r8_7_0 = load16(a3 + 14);
+    not = *a2 == 0u;
+    Stream_write_register(a1, 4u, 48u, not ? UINT32_C(0xffffffff) : UINT32_C(0xf0001));
+    switch (r8_539_0) {
+    default: {
+        trap();
+        return;
+    }
+    case 0u: {
+        Stream_write_register(a1, 4u, 8u, r8_238_0);
+        r10_0 = 0u;
+        goto switch_lookup;
+    }
+    case 2u: {
+        Stream_write_register(a1, 4u, 4u, (uint32_t)((uint32_t)r8_640_0 << 16u) | 29184u);
+        Stream_write_register(a1, 4u, 8u, r8_238_0);
+        r10_0 = (r8_640_0 == 1u) ? 0u : 34u;
+        goto switch_lookup;
+    }
+    case 1u: {
+        Stream_write_register(a1, 4u, 4u, (uint32_t)((uint32_t)r8_640_0 + 28672u) + ((uint32_t)r8_7_0 << 16u));
+        Stream_write_register(a1, 4u, 8u, r8_238_0);
+        r10_0 = (r8_7_0 == 1u) ? 16u : 50u;
+        goto switch_lookup;
+    }
+    }
+switch_lookup: {
+    uint32_t r56 = (r10_0 | (uint32_t)a4) | (((r8_539_0 == 0u) ? 0u : UINT32_C(0x200000)) | ((uint32_t)((uint32_t)r8_0_0 << 24u) | ((r8_0_0 == 12u) ? UINT32_C(0xc00000) : 0u)));
+    r59 = r56 + load32_aligned(at((uint8_t *)bytes_command_send, (uint64_t)r8_3_0 * 4u));
+    switch ((uint8_t)((uint8_t)(r59 >> 24u) & 63u)) {
+    default: {
+        goto after_1;
+    }
+    case 1u: {
+        if ((a1[21] & 1u) != 0) {
+            goto after_1;
+        }
+        goto join_5_preheader;
+    }
+    case 41u: {
+        if ((a1[20] & 1u) != 0) {
+            goto after_1;
+        }
+        goto join_5_preheader;
+    }
+    }
+}
+after_1: {
+    Stream_write_register(a1, 4u, 12u, r59);
+}
+join_5_preheader: {
+    r1_08 = 0u;
+}
+join_5: {
+    uint32_t r6_7 = Stream_read_register(a1, 4u, 48u);
+    switch (r6_7 & UINT32_C(0xf0001)) {
+    default: {
+        common_ret_op_70 = r6_7;
+        goto join_5_2;
+    }
+    case 0u: {
+        Stream_pause(a1, 10u);
+        uint32_t r41 = r1_08 + 1u;
+        if (r41 == 1000u) {
+            common_ret_op_70 = 0u;
+            goto join_5_2;
+        }
+        r1_08 = r41;
+        goto join_5;
+    }
+    case 1u: {
+        switch (r8_3_0) {
+        default: {
+            trap();
+            return;
+        }
+        case 0u: {
+            r2_8_5_0 = 0u;
+            r2_8_4_0 = 0u;
+            r2_8_3_0 = 0u;
+            r2_8_0_0 = 0u;
+            r2_20_0 = 0u; /* any */
+            r2_19_0 = 0u; /* any */
+            r2_18_0 = 0u; /* any */
+            r2_17_0 = 0u; /* any */
+            r2_16_0 = 0u; /* any */
+            r2_15_0 = 0u; /* any */
+            r2_14_0 = 0u; /* any */
+            r2_13_0 = 0u; /* any */
+            r2_7_0 = 0u; /* any */
+            r2_6_0 = 0u; /* any */
+            r2_4_0 = 0u; /* any */
+            r2_0_0 = r8_3_0;
+            goto mmc_sdhci_command_hear_d002fd087b3dc1c2_exit;
+        }
+        case 3u: {
+            uint32_t r6 = Stream_read_register(a1, 4u, 28u);
+            uint32_t r6_4 = Stream_read_register(a1, 4u, 24u);
+            uint32_t r6_5 = Stream_read_register(a1, 4u, 20u);
+            uint32_t r6_6 = Stream_read_register(a1, 4u, 16u);
+            r2_8_5_0 = r6_4 & 255u;
+            r2_8_4_0 = r6_4 >> 8u;
+            r2_8_3_0 = r6_4 >> 16u;
+            r2_8_0_0 = r6_4 >> 24u;
+            r2_20_0 = (uint8_t)r6_6;
+            r2_19_0 = (uint8_t)(r6_6 >> 8u);
+            r2_18_0 = (uint8_t)(r6_6 >> 16u);
+            r2_17_0 = (uint8_t)(r6_6 >> 24u);
+            r2_16_0 = (uint8_t)r6_5;
+            r2_15_0 = (uint8_t)(r6_5 >> 8u);
+            r2_14_0 = (uint8_t)(r6_5 >> 16u);
+            r2_13_0 = (uint8_t)(r6_5 >> 24u);
+            r2_7_0 = (uint8_t)r6;
+            r2_6_0 = (uint8_t)(r6 >> 8u);
+            r2_4_0 = (uint8_t)(r6 >> 16u);
+            r2_0_0 = 2u;
+            goto mmc_sdhci_command_hear_d002fd087b3dc1c2_exit;
+        }
+        case 1u:
+        case 2u:
+        case 4u:
+        case 5u:
+        case 6u: {
+            uint32_t r6_2 = Stream_read_register(a1, 4u, 16u);
+            r2_8_5_0 = r6_2 >> 24u;
+            r2_8_4_0 = r6_2 >> 16u;
+            r2_8_3_0 = r6_2 >> 8u;
+            r2_8_0_0 = r6_2 & 255u;
+            r2_20_0 = 0u; /* any */
+            r2_19_0 = 0u; /* any */
+            r2_18_0 = 0u; /* any */
+            r2_17_0 = 0u; /* any */
+            r2_16_0 = 0u; /* any */
+            r2_15_0 = 0u; /* any */
+            r2_14_0 = 0u; /* any */
+            r2_13_0 = 0u; /* any */
+            r2_7_0 = 0u; /* any */
+            r2_6_0 = 0u; /* any */
+            r2_4_0 = 0u; /* any */
+            r2_0_0 = 1u;
+            goto mmc_sdhci_command_hear_d002fd087b3dc1c2_exit;
+        }
+        }
+    }
+    }
+}
+mmc_sdhci_command_hear_d002fd087b3dc1c2_exit: {
+    uint32_t r2_8_0_0_insert_insert = ((((r2_8_4_0 << 16u) & UINT32_C(0xff0000)) | (r2_8_5_0 << 24u)) | ((uint32_t)(r2_8_3_0 << 8u) & 65280u)) | r2_8_0_0;
+    if (not) {
+        *a0 = 0u;
+        a0[4] = r2_0_0;
+        a0[5] = r2_4_0;
+        a0[6] = r2_6_0;
+        a0[7] = r2_7_0;
+        store32(a0 + 8, r2_8_0_0_insert_insert);
+        a0[12] = r2_13_0;
+        a0[13] = r2_14_0;
+        a0[14] = r2_15_0;
+        a0[15] = r2_16_0;
+        a0[16] = r2_17_0;
+        a0[17] = r2_18_0;
+        a0[18] = r2_19_0;
+        sink = 19u;
+        r2_20_0_sink = r2_20_0;
+        goto common_ret;
+    }
+    command_reset_data(a1);
+    *a0 = 0u;
+    a0[4] = r2_0_0;
+    a0[5] = r2_4_0;
+    a0[6] = r2_6_0;
+    a0[7] = r2_7_0;
+    store32(a0 + 8, r2_8_0_0_insert_insert);
+    a0[12] = r2_13_0;
+    a0[13] = r2_14_0;
+    a0[14] = r2_15_0;
+    a0[15] = r2_16_0;
+    a0[16] = r2_17_0;
+    a0[17] = r2_18_0;
+    a0[18] = r2_19_0;
+    sink = 19u;
+    r2_20_0_sink = r2_20_0;
+    goto common_ret;
+}
+join_5_2: {
+    command_reset_command(a1);
+    command_reset_data(a1);
+    if (!((common_ret_op_70 & UINT32_C(0x20000)) == 0u)) {
+        r4_0_0 = 1u;
+        goto mmc_sdhci_command_fault_in_exit;
+    }
+    r4_0_0 = (uint8_t)(((common_ret_op_70 & UINT32_C(0x40000)) == 0u) ? (uint8_t)(((common_ret_op_70 & UINT32_C(0x80000)) == 0u) ? 0u : 3u) : 2u);
+}
+mmc_sdhci_command_fault_in_exit: {
+    *a0 = 1u;
+    sink = 1u;
+    r2_20_0_sink = r4_0_0;
+}
+common_ret: {
+    *at(a0, sink) = r2_20_0_sink;
+    return;
+}
+}
+
+/* mmc_host::told::HostState::sent */
+static void HostState_sent(uint8_t *a0, uint8_t *a1, uint8_t *a2, bool a3)
+{
+    uint32_t r1_419_0;
+    uint32_t r1_5_0;
+    uint8_t r2_0_0;
+    uint32_t r2_314_0;
+    uint8_t r2_416_0;
+    uint16_t r2_5_2_0;
+    uint16_t v1;
+    bool r8_0_in47;
+    uint32_t r4_6_5_0_38;
+    uint8_t r4_0_0_36;
+    bool r8_0_in46;
+    uint32_t r4_6_5_0_37;
+    uint8_t r4_0_0_35;
+    uint32_t r31_0;
+    uint32_t r34_0;
+    uint8_t r1_4_2_0 = a1[16];
+    uint32_t r1_4_4_0 = load32(a1 + 20);
+    r1_419_0 = load32(a1 + 24);
+    r1_5_0 = load32(a1 + 28);
+    r2_0_0 = *a2;
+    r2_314_0 = load32(a2 + 4);
+    uint16_t v0 = load16(a2 + 8);
+    r2_416_0 = a2[10];
+    r2_5_2_0 = load16(a2 + 12);
+    v1 = load16(a2 + 14);
+    if (r2_0_0 == 0u) {
+        r8_0_in47 = true;
+        r4_6_5_0_38 = r1_4_4_0;
+        r4_0_0_36 = r1_4_2_0;
+        goto default_25;
+    }
+    bool r8_0_in = ((a3 && (r2_0_0 == 7u)) != true) && ((a1[3] & 1u) != 0);
+    switch (r2_0_0) {
+    default: {
+        bool or_cond = (uint8_t)(r2_0_0 & 254u) == 24u;
+        uint8_t spec_select57 = (uint8_t)(or_cond ? 1u : r1_4_2_0);
+        uint32_t spec_select58 = or_cond ? 0u : r1_4_4_0;
+        switch (r2_0_0) {
+        default: {
+            r8_0_in47 = r8_0_in;
+            r4_6_5_0_38 = spec_select58;
+            r4_0_0_36 = spec_select57;
+            goto default_25;
+        }
+        case 32u:
+        case 35u: {
+            r8_0_in46 = r8_0_in;
+            r4_6_5_0_37 = spec_select58;
+            r4_0_0_35 = spec_select57;
+            r31_0 = r2_314_0;
+            goto join_26;
+        }
+        }
+    }
+    case 7u: {
+        r8_0_in47 = r8_0_in;
+        r4_6_5_0_38 = 0u; /* any */
+        r4_0_0_36 = 0u;
+        goto default_25;
+    }
+    case 12u: {
+        r8_0_in47 = r8_0_in;
+        r4_6_5_0_38 = 0u; /* any */
+        r4_0_0_36 = 1u;
+        goto default_25;
+    }
+    case 6u: {
+        bool r13_not = (uint8_t)v0 == 2u;
+        r8_0_in47 = r8_0_in;
+        r4_6_5_0_38 = r13_not ? 0u : r1_4_4_0;
+        r4_0_0_36 = (uint8_t)(r13_not ? 2u : r1_4_2_0);
+        goto default_25;
+    }
+    case 38u: {
+        r8_0_in47 = r8_0_in;
+        r4_6_5_0_38 = usub_sat32(r1_5_0, r1_419_0);
+        r4_0_0_36 = 3u;
+        goto default_25;
+    }
+    }
+default_25: {
+    r8_0_in46 = r8_0_in47;
+    r4_6_5_0_37 = r4_6_5_0_38;
+    r4_0_0_35 = r4_0_0_36;
+    r31_0 = r1_419_0;
+}
+join_26: {
+    switch (r2_0_0) {
+    default: {
+        r34_0 = r1_5_0;
+        goto join_29;
+    }
+    case 33u:
+    case 36u: {
+        r34_0 = r2_314_0;
+        goto join_29;
+    }
+    }
+}
+join_29: {
+    {
+        uint8_t moved[3];
+        memcpy(moved, a1, 3);
+        memcpy(a0, moved, 3);
+    }
+    a0[3] = (uint8_t)r8_0_in46;
+    a0[4] = (uint8_t)(a3 && (r2_0_0 == 55u));
+    store16(a0 + 6, (uint16_t)((a3 && (r2_0_0 == 23u)) ? (uint16_t)r2_314_0 : 0u));
+    store16(a0 + 8, (uint16_t)(a3 ? (uint16_t)r2_416_0 : 0u));
+    store16(a0 + 10, (uint16_t)(a3 ? r2_5_2_0 : 0u));
+    store16(a0 + 12, (uint16_t)(a3 ? v1 : 0u));
+    store32(a0 + 16, (uint32_t)r4_0_0_35);
+    store32(a0 + 20, r4_6_5_0_37);
+    store32(a0 + 24, r31_0);
+    store32(a0 + 28, r34_0);
+    store32(a0 + 32, 0u);
+    return;
+}
+}
+
+/* mmc_host::replies::spelled */
+static void replies_spelled(uint8_t *a0, uint8_t *a1, uint8_t *a2)
+{
+    KELIFANDRO_ROOM uint8_t room[15];
+    uint8_t *const r0 = room;
+    uint8_t *const r10 = room;
+    KELIFANDRO_ROOM uint8_t r15_5_6_0[10];
+    uint32_t r2_7_5;
+    uint8_t r3_05;
+    uint64_t r4_04;
+    uint8_t r15_5_6_2_0;
+    uint8_t r15_5_5_0;
+    uint32_t r15_5_4_0;
+    uint8_t r15_5_0_0;
+    uint8_t r15_0_0;
+    uint8_t r1_0_0 = *a1;
+    uint8_t r2_3_4 = a2[4];
+    r2_7_5 = load32(a2 + 8);
+    uint64_t r2_8_5 = load64(a2 + 12);
+    if (*a2 != 0u) {
+        *a0 = 0u;
+        goto common_ret;
+    }
+    uint8_t r1_25_0 = a1[8];
+    switch (r1_25_0) {
+    default: {
+        trap();
+        return;
+    }
+    case 3u: {
+        if (r2_3_4 != 2u) {
+            r15_5_6_2_0 = 0u; /* any */
+            r15_5_5_0 = 0u; /* any */
+            r15_5_4_0 = 0u; /* any */
+            r15_5_0_0 = 0u; /* any */
+            r15_0_0 = 0u;
+            goto after_5;
+        }
+        memcpy(r10, a2 + 5, 3);
+        store32(r10 + 3, r2_7_5);
+        store64(r10 + 7, r2_8_5);
+        r3_05 = 0u;
+        r4_04 = 0u;
+        goto join_6;
+    }
+    case 4u: {
+        if (r2_3_4 != 1u) {
+            r15_5_6_2_0 = 0u; /* any */
+            r15_5_5_0 = 0u; /* any */
+            r15_5_4_0 = 0u; /* any */
+            r15_5_0_0 = 0u; /* any */
+            r15_0_0 = 0u;
+            goto after_5;
+        }
+        r15_5_6_2_0 = 0u; /* any */
+        r15_5_5_0 = 255u;
+        r15_5_4_0 = bswap32(r2_7_5);
+        r15_5_0_0 = 63u;
+        r15_0_0 = 1u;
+        goto after_5;
+    }
+    case 1u:
+    case 2u:
+    case 5u:
+    case 6u: {
+        if (r2_3_4 != 1u) {
+            r15_5_6_2_0 = 0u; /* any */
+            r15_5_5_0 = 0u; /* any */
+            r15_5_4_0 = 0u; /* any */
+            r15_5_0_0 = 0u; /* any */
+            r15_0_0 = 0u;
+            goto after_5;
+        }
+        frame_framed(r0, r1_0_0, r2_7_5);
+        uint8_t r22_0_0 = *r0;
+        uint32_t r22_2_0 = load32(r0 + 1);
+        uint8_t r22_3_0 = r0[5];
+        r15_5_6_2_0 = 0u; /* any */
+        r15_5_5_0 = r22_3_0;
+        r15_5_4_0 = r22_2_0;
+        r15_5_0_0 = r22_0_0;
+        r15_0_0 = 1u;
+        goto after_5;
+    }
+    case 0u: {
+        r15_5_6_2_0 = 0u; /* any */
+        r15_5_5_0 = 0u; /* any */
+        r15_5_4_0 = 0u; /* any */
+        r15_5_0_0 = 0u; /* any */
+        r15_0_0 = r1_25_0;
+        goto after_5;
+    }
+    }
+join_6: {
+    uint8_t r18 = *at((uint8_t *)bytes_static_0, (uint64_t)(uint8_t)(*at(r10, r4_04) ^ (uint8_t)((uint32_t)r3_05 << 1u)));
+    uint64_t r28 = r4_04 + 1u;
+    if (r28 != 15u) {
+        r3_05 = r18;
+        r4_04 = r28;
+        goto join_6;
+    }
+    uint32_t r1_0_0_2 = load32_aligned(r10);
+    memcpy(r15_5_6_0, r10 + 5, 10);
+    r15_5_6_2_0 = (uint8_t)((uint8_t)((uint32_t)r18 << 1u) | 1u);
+    r15_5_5_0 = (uint8_t)(r2_7_5 >> 8u);
+    r15_5_4_0 = r1_0_0_2;
+    r15_5_0_0 = 63u;
+    r15_0_0 = 2u;
+}
+after_5: {
+    *a0 = r15_0_0;
+    a0[1] = r15_5_0_0;
+    store32(a0 + 2, r15_5_4_0);
+    a0[6] = r15_5_5_0;
+    memcpy(a0 + 7, r15_5_6_0, 10);
+    a0[17] = r15_5_6_2_0;
+}
+common_ret: {
+    return;
+}
+}
+
+/* mmc_bus::wire::Wire::note */
+static void Wire_note(uint8_t *a0, uint8_t *a1)
+{
+    KELIFANDRO_ROOM uint8_t r7_8[18];
+    KELIFANDRO_ROOM uint8_t r7_4[6];
+    uint8_t r0_0_0 = *a1;
+    uint8_t r0_4_7 = a1[7];
+    memcpy(r7_4, a1 + 1, 6);
+    memcpy(r7_8, a1 + 8, 18);
+    store64(a0 + 8, 1u);
+    a0[16] = r0_0_0;
+    memcpy(a0 + 17, r7_4, 6);
+    a0[23] = r0_4_7;
+    memcpy(a0 + 24, r7_8, 18);
+    store64_aligned(a0 + 48, uadd_sat64(load64_aligned(a0 + 48), 1u));
+    return;
+}
+
+/* mmc_bus::host::ask::<#1bed76fd314cf36e> */
+static void host_ask(uint8_t *a0, uint8_t *a1, uint8_t a2, uint32_t a3)
+{
+    KELIFANDRO_ROOM uint8_t room[18];
+    uint8_t *const r1 = room;
+    uint8_t *const r4 = room;
+    KELIFANDRO_ROOM uint8_t room_2[18];
+    uint8_t *const r0 = room_2;
+    uint8_t *const r2 = room_2;
+    frame_framed(r4, (uint8_t)(a2 | 64u), a3);
+    HostBusBus_command(r2, a1, r4, (uint8_t)((a2 == 9u) ? 2u : 1u));
+    *r1 = *r2;
+    memcpy(r1 + 1, r2 + 1, 17);
+    host_response_in(r0, r1, a2);
+    *a0 = *r0;
+    a0[1] = r0[1];
+    store32(a0 + 4, load32_aligned(r0 + 4));
+    return;
+}
+
+/* mmc_bus::host::response_in */
+static void host_response_in(uint8_t *a0, uint8_t *a1, uint8_t a2)
+{
+    uint32_t r2_8_0;
+    uint8_t r2_4_0;
+    uint8_t r2_0_0;
+    uint8_t r7 = *a1;
+    switch (r7) {
+    default: {
+        trap();
+        return;
+    }
+    case 0u: {
+        r2_8_0 = 0u; /* any */
+        r2_4_0 = r7;
+        r2_0_0 = 1u;
+        goto join_5;
+    }
+    case 1u: {
+        uint8_t r22 = a1[1];
+        if (!(r22 < 64u)) {
+            r2_8_0 = 0u; /* any */
+            r2_4_0 = 1u;
+            r2_0_0 = 1u;
+            goto join_5;
+        }
+        if ((uint8_t)(a1[6] & 1u) == 0u) {
+            r2_8_0 = 0u; /* any */
+            r2_4_0 = 1u;
+            r2_0_0 = 1u;
+            goto join_5;
+        }
+        bool r49 = frame_is_sound_frame(a1 + 1);
+        if (!((r22 == a2) && r49)) {
+            r2_8_0 = 0u; /* any */
+            r2_4_0 = 1u;
+            r2_0_0 = 1u;
+            goto join_5;
+        }
+        r2_8_0 = bswap32(load32(a1 + 2));
+        r2_4_0 = 1u;
+        r2_0_0 = 0u;
+        goto join_5;
+    }
+    case 2u: {
+        r2_8_0 = 0u; /* any */
+        r2_4_0 = 1u;
+        r2_0_0 = 1u;
+        goto join_5;
+    }
+    }
+join_5: {
+    *a0 = r2_0_0;
+    a0[1] = r2_4_0;
+    store32(a0 + 4, r2_8_0);
+    return;
+}
+}
+
+/* mmc_identify::sd::announce::<#1bed76fd314cf36e> */
+static struct of_i8_i8 sd_announce(uint8_t *a0)
+{
+    KELIFANDRO_ROOM uint8_t r1[8];
+    host_ask(r1, a0, 55u, 0u);
+    bool v0 = *r1 != 0u;
+    uint8_t r6_0_0 = (uint8_t)(v0 && (r1[1] != 0u));
+    uint8_t r6_4_0 = (uint8_t)(v0 != true);
+    struct of_i8_i8 r18_fca_0_insert = (struct of_i8_i8){r6_0_0, 0};
+    struct of_i8_i8 r18_fca_1_insert = (struct of_i8_i8){r18_fca_0_insert.f0, r6_4_0};
+    return r18_fca_1_insert;
+}
+
+/* mmc_identify::sd::inquire::<#1bed76fd314cf36e> */
+static void sd_inquire(uint8_t *a0, uint8_t *a1, bool a2)
+{
+    KELIFANDRO_ROOM uint8_t r0[12];
+    KELIFANDRO_ROOM uint8_t r1[8];
+    host_ask_ocr(r1, a1, 0u, a2 ? UINT32_C(0x40300000) : UINT32_C(0x300000));
+    judging_inquired(r0, r1);
+    *a0 = *r0;
+    a0[1] = r0[1];
+    store32(a0 + 4, (uint32_t)r0[4]);
+    store32(a0 + 8, load32_aligned(r0 + 8));
+    return;
+}
+
+/* mmc_bus::host::ask_ocr::<#1bed76fd314cf36e> */
+static void host_ask_ocr(uint8_t *a0, uint8_t *a1, uint8_t a2, uint32_t a3)
+{
+    KELIFANDRO_ROOM uint8_t r4[18];
+    KELIFANDRO_ROOM uint8_t r6[6];
+    uint32_t r2_8_0;
+    uint8_t r2_4_0;
+    uint8_t r2_0_0;
+    frame_framed(r6, (uint8_t)(((a2 & 1u) != 0) ? 65u : 105u), a3);
+    HostBusBus_command(r4, a1, r6, 1u);
+    uint8_t v0 = *r4;
+    switch (v0) {
+    default: {
+        trap();
+        return;
+    }
+    case 0u: {
+        r2_8_0 = 0u; /* any */
+        r2_4_0 = v0;
+        r2_0_0 = 1u;
+        goto mmc_bus_host_ocr_in_exit;
+    }
+    case 1u: {
+        bool or_cond_not = (r4[1] != 63u) || (r4[6] != 255u);
+        r2_8_0 = or_cond_not ? 0u : bswap32(load32(r4 + 2));
+        r2_4_0 = 1u;
+        r2_0_0 = (uint8_t)or_cond_not;
+        goto mmc_bus_host_ocr_in_exit;
+    }
+    case 2u: {
+        r2_8_0 = 0u; /* any */
+        r2_4_0 = 1u;
+        r2_0_0 = 1u;
+        goto mmc_bus_host_ocr_in_exit;
+    }
+    }
+mmc_bus_host_ocr_in_exit: {
+    *a0 = r2_0_0;
+    a0[1] = r2_4_0;
+    store32(a0 + 4, r2_8_0);
+    return;
+}
+}
+
+/* mmc_identify::judging::inquired */
+static void judging_inquired(uint8_t *a0, uint8_t *a1)
+{
+    uint64_t sink25;
+    uint32_t sink;
+    uint32_t v1 = load32(a1 + 4);
+    if (*a1 != 0u) {
+        *a0 = 1u;
+        a0[1] = 0u;
+        sink25 = 4u;
+        sink = 0u;
+        goto common_ret;
+    }
+    if ((v1 & UINT32_C(0x80ffffff)) == 0u) {
+        *a0 = 0u;
+        sink25 = 4u;
+        sink = 0u;
+        goto common_ret;
+    }
+    if (!((v1 & UINT32_C(0x300000)) == UINT32_C(0x300000))) {
+        *a0 = 1u;
+        a0[1] = 1u;
+        sink25 = 4u;
+        sink = 0u;
+        goto common_ret;
+    }
+    *a0 = 0u;
+    store32(a0 + 4, v1 >> 31u);
+    sink25 = 8u;
+    sink = v1;
+common_ret: {
+    store32(at(a0, sink25), sink);
+    return;
+}
+}
+
+/* mmc_bus::host::ask_register::<#1bed76fd314cf36e> */
+static void host_ask_register(uint8_t *a0, uint8_t *a1, uint8_t a2, uint32_t a3)
+{
+    KELIFANDRO_ROOM uint8_t r2[18];
+    KELIFANDRO_ROOM uint8_t room[16];
+    uint8_t *const r7_6_0 = room;
+    uint8_t *const r1 = room;
+    uint8_t *const r4 = room;
+    uint8_t r7_6_4_0;
+    uint8_t r5_0_04;
+    uint8_t r7_3_0;
+    uint8_t r7_6_4_1;
+    uint8_t r2_4_0;
+    uint8_t r2_0_0;
+    frame_framed(r4, (uint8_t)(a2 | 64u), a3);
+    HostBusBus_command(r2, a1, r4, (uint8_t)(((uint8_t)(a2 + 253u) < 6u) ? 1u : 2u));
+    uint8_t v0 = *r2;
+    uint8_t r1_4_1 = r2[2];
+    uint8_t r1_7_1 = r2[17];
+    if (v0 != 2u) {
+        r7_6_4_1 = 0u; /* any */
+        r2_4_0 = v0;
+        r2_0_0 = 1u;
+        goto mmc_bus_host_register_in_exit;
+    }
+    uint8_t r1_2_1 = r2[1];
+    if ((r1_2_1 != 63u) || ((uint8_t)(r1_7_1 & 1u) == 0u)) {
+        r7_6_4_0 = 0u; /* any */
+        r5_0_04 = 1u;
+        r7_3_0 = 1u;
+        goto core_result_Result_map_err_9a6c9fbc5e69f3ca_exit;
+    }
+    *r1 = r1_4_1;
+    memcpy(r1 + 1, r2 + 3, 14);
+    r1[15] = r1_7_1;
+    bool r44 = register_response_check_fits(r1);
+    if (!r44) {
+        r7_6_4_0 = 0u; /* any */
+        r5_0_04 = 1u;
+        r7_3_0 = 1u;
+        goto core_result_Result_map_err_9a6c9fbc5e69f3ca_exit;
+    }
+    memcpy(r7_6_0, r2 + 3, 14);
+    r7_6_4_0 = r1_7_1;
+    r5_0_04 = 0u;
+    r7_3_0 = r1_4_1;
+core_result_Result_map_err_9a6c9fbc5e69f3ca_exit: {
+    r7_6_4_1 = r7_6_4_0;
+    r2_4_0 = r7_3_0;
+    r2_0_0 = r5_0_04;
+}
+mmc_bus_host_register_in_exit: {
+    *a0 = r2_0_0;
+    a0[1] = r2_4_0;
+    memcpy(a0 + 2, r7_6_0, 14);
+    a0[16] = r7_6_4_1;
+    return;
+}
+}
+
+/* mmc_bus::wait::count_polls::<#1bed76fd314cf36e> */
+static void wait_count_polls(uint8_t *a0, uint8_t *a1)
+{
+    uint64_t r1_08;
+    r1_08 = 0u;
+join_5: {
+    bool r12 = host_poll(a1);
+    if (!r12) {
+        *a0 = 0u;
+        a0[1] = 3u;
+        store64(a0 + 8, r1_08);
+        goto common_ret;
+    }
+    uint64_t r27 = r1_08 + 1u;
+    if (r27 != 16u) {
+        r1_08 = r27;
+        goto join_5;
+    }
+    *a0 = 1u;
+    a0[1] = 3u;
+}
+common_ret: {
+    return;
+}
+}
+
+/* mmc_bus::host::poll::<#1bed76fd314cf36e> */
+static bool host_poll(uint8_t *a0)
+{
+    KELIFANDRO_ROOM uint8_t room[32];
+    uint8_t *const r17 = room;
+    uint8_t *const r4 = room;
+    uint8_t *const r5 = room + 8;
+    bool v0;
+    uint32_t r5_0;
+    uint32_t r10;
+    uint32_t r0_05;
+    bool r6_0_in;
+    v0 = *a0 == 0u;
+    switch (a0[160]) {
+    default: {
+        trap();
+        return 0;
+    }
+    case 0u:
+    case 1u: {
+        r5_0 = 32000u;
+        goto mmc_host_work_Work_micros_exit;
+    }
+    case 2u: {
+        r5_0 = UINT32_C(0x27100);
+        goto mmc_host_work_Work_micros_exit;
+    }
+    case 3u: {
+        r5_0 = (uint32_t)umin64((uint64_t)load32(a0 + 164) * 16000u, UINT64_C(0x350c1400)) + UINT32_C(0x98d500);
+        goto mmc_host_work_Work_micros_exit;
+    }
+    }
+mmc_host_work_Work_micros_exit: {
+    if (!v0) {
+        r10 = r5_0 / 10u;
+        r0_05 = 0u;
+        goto join_5;
+    }
+    store32_aligned(r5, 0u);
+    *r17 = 4u;
+    store32(r17 + 1, r5_0);
+    Stream_ask(a0 + 4, r17, 5u, r5, 4u);
+    uint32_t v4 = load32_aligned(r5);
+    r6_0_in = v4 != 0u;
+    goto mmc_host_host_bus_HostBusBus_busy_d568f3fc8d51bff2_exit;
+}
+join_5: {
+    uint32_t r6 = CRegistersRegisters_read32(a0 + 4, 36u);
+    if (!((r6 & UINT32_C(0x100000)) == 0u)) {
+        goto mmc_sdhci_sdhci_SdhciHost_is_busy_d002fd087b3dc1c2_exit;
+    }
+    Stream_pause(a0 + 4, 10u);
+    uint32_t r30 = r0_05 + 1u;
+    if (r30 != r10) {
+        r0_05 = r30;
+        goto join_5;
+    }
+    Stream_pause(a0 + 4, (r10 * UINT32_C(0xfffffff6)) + r5_0);
+}
+mmc_sdhci_sdhci_SdhciHost_is_busy_d002fd087b3dc1c2_exit: {
+    uint8_t r8 = StoryRegistersRegisters_read8(a0 + 4, 38u);
+    r6_0_in = (uint8_t)(r8 & 16u) == 0u;
+}
+mmc_host_host_bus_HostBusBus_busy_d568f3fc8d51bff2_exit: {
+    *r4 = 3u;
+    r4[1] = (uint8_t)r6_0_in;
+    Wire_note(a0 + 88, r4);
+    return r6_0_in;
+}
+}
+
+/* mmc_bus::status::check_closing */
+static struct of_i8_i8 status_check_closing(uint8_t a0, uint8_t *a1)
+{
+    uint8_t r0_0_0;
+    uint8_t r0_3_0;
+    if (*a1 != 0u) {
+        r0_0_0 = 1u;
+        r0_3_0 = 0u;
+        goto return_5;
+    }
+    uint32_t r2_4_4 = load32(a1 + 4);
+    bool r12 = (r2_4_4 & ((a0 == 0u) ? UINT32_C(0xfd39a000) : UINT32_C(0xfd39a080))) == 0u;
+    if (((uint32_t)(r2_4_4 & 7936u) == 2304u) && r12) {
+        r0_0_0 = 0u;
+        r0_3_0 = 0u;
+        goto return_5;
+    }
+    uint32_t r18 = (uint32_t)(r2_4_4 >> 9u) & 15u;
+    if (!(r12 && ((r18 + UINT32_C(0xfffffffd)) < 5u))) {
+        r0_0_0 = 1u;
+        r0_3_0 = 2u;
+        goto return_5;
+    }
+    bool cond_fr = ((uint32_t)(r2_4_4 & 256u) == 0u) || (r18 != 4u);
+    r0_0_0 = (uint8_t)(cond_fr != true);
+    r0_3_0 = (uint8_t)(cond_fr ? 1u : 2u);
+return_5: {
+    struct of_i8_i8 r66_fca_0_insert = (struct of_i8_i8){r0_0_0, 0};
+    struct of_i8_i8 r66_fca_1_insert = (struct of_i8_i8){r66_fca_0_insert.f0, r0_3_0};
+    return r66_fca_1_insert;
+}
+}
+
+/* mmc_switch::sd::announce::<#1bed76fd314cf36e> */
+static uint8_t sd_announce_2(uint8_t *a0, uint16_t a1)
+{
+    KELIFANDRO_ROOM uint8_t r2[8];
+    host_ask(r2, a0, 55u, (uint32_t)a1 << 16u);
+    return (uint8_t)((*r2 != 0u) || ((load32_aligned(r2 + 4) & UINT32_C(0xfd39a000)) != 0u));
+}
+
+/* mmc_bus::data::receive::<#1bed76fd314cf36e> */
+static uint8_t data_receive(uint8_t *a0, uint8_t *a1, uint64_t a2)
+{
+    KELIFANDRO_ROOM uint8_t room[36];
+    uint8_t *const r12 = room;
+    uint8_t *const r9 = room;
+    KELIFANDRO_ROOM uint8_t r13[36];
+    uint8_t r5_0_0;
+    uint8_t r0_0_0;
+    if (a0[144] != a0[88]) {
+        goto then_1;
+    }
+    if (a0[145] != a0[89]) {
+        goto then_1;
+    }
+    if (!((a0[152] == 1u) && (a2 == (uint64_t)load16(a0 + 154)))) {
+        goto then_1;
+    }
+    if (*a0 != 0u) {
+        uint8_t r36 = SdhciHost_read_block(a0 + 4, a1, a2);
+        r5_0_0 = r36;
+        goto c_host_way_WayHost_read_block_b4302b8119c90b07_exit;
+    }
+    uint64_t r25 = io_read_full(load32_aligned(a0 + 4), a1, a2);
+    r5_0_0 = (uint8_t)((r25 == a2) ? 0u : (uint8_t)((r25 == 0u) ? 2u : 1u));
+    goto c_host_way_WayHost_read_block_b4302b8119c90b07_exit;
+then_1: {
+    a0[180] = 1u;
+    r0_0_0 = 2u;
+    goto mmc_bus_host_read_block_1bed76fd314cf36e_exit;
+}
+c_host_way_WayHost_read_block_b4302b8119c90b07_exit: {
+    memcpy(r13, a0 + 144, 36);
+    HostState_block_passed(r12, r13, r5_0_0 == 0u);
+    memcpy(a0 + 144, r12, 36);
+    r0_0_0 = r5_0_0;
+}
+mmc_bus_host_read_block_1bed76fd314cf36e_exit: {
+    *r9 = 1u;
+    store64_aligned(r9 + 8, a2);
+    r9[16] = r0_0_0;
+    Wire_note(a0 + 88, r9);
+    return (uint8_t)(r0_0_0 != 0u);
+}
+}
+
+/* mmc_sdhci::sdhci::SdhciHost::read_block::<#d002fd087b3dc1c2> */
+static uint8_t SdhciHost_read_block(uint8_t *a0, uint8_t *a1, uint64_t a2)
+{
+    KELIFANDRO_ROOM uint8_t room[36];
+    uint8_t *const r3 = room;
+    uint8_t *const r11 = room;
+    uint8_t *const r9 = room;
+    KELIFANDRO_ROOM uint8_t r10[36];
+    uint16_t r1_2_1_1;
+    bool r10_0_0_shrunk;
+    uint8_t r0_0_0_2;
+    uint8_t r0_0_0;
+    uint8_t r16 = a0[40];
+    uint16_t v0 = load16(a0 + 42);
+    uint16_t v1 = load16(a0 + 44);
+    watching_watch(r11, a0, 0u, 0u);
+    if (*r11 != 1u) {
+        command_reset_data(a0);
+        r0_0_0 = 2u;
+        goto mmc_sdhci_data_read_block_d002fd087b3dc1c2_exit;
+    }
+    uint32_t r10_21_0 = load32_aligned(r11 + 8);
+    if ((uint32_t)(r10_21_0 & 32768u) == 0u) {
+        io_read_full(load32_aligned(a0), a1, a2);
+        switch (r16) {
+        default: {
+            trap();
+            return 0;
+        }
+        case 0u: {
+            r10_0_0_shrunk = false;
+            goto mmc_sdhci_following_following_of_exit;
+        }
+        case 1u: {
+            r1_2_1_1 = v1;
+            goto join_5_sink_split;
+        }
+        case 2u: {
+            r1_2_1_1 = v0;
+            goto join_5_sink_split;
+        }
+        }
+    }
+    command_reset_data(a0);
+    r0_0_0 = (uint8_t)(((r10_21_0 & UINT32_C(0x600000)) == 0u) ? 2u : 1u);
+    goto mmc_sdhci_data_read_block_d002fd087b3dc1c2_exit;
+join_5_sink_split: {
+    r10_0_0_shrunk = r1_2_1_1 != 1u;
+}
+mmc_sdhci_following_following_of_exit: {
+    watching_watch(r3, a0, 1u, (uint8_t)r10_0_0_shrunk);
+    if (*r3 != 1u) {
+        command_reset_data(a0);
+        r0_0_0_2 = 2u;
+        goto mmc_sdhci_data_see_good_d002fd087b3dc1c2_exit;
+    }
+    uint32_t r2_21_0 = load32_aligned(r3 + 8);
+    if ((uint32_t)(r2_21_0 & 32768u) == 0u) {
+        r0_0_0_2 = 0u;
+        goto mmc_sdhci_data_see_good_d002fd087b3dc1c2_exit;
+    }
+    command_reset_data(a0);
+    r0_0_0_2 = (uint8_t)(((r2_21_0 & UINT32_C(0x600000)) == 0u) ? 2u : 1u);
+}
+mmc_sdhci_data_see_good_d002fd087b3dc1c2_exit: {
+    r0_0_0 = r0_0_0_2;
+}
+mmc_sdhci_data_read_block_d002fd087b3dc1c2_exit: {
+    memcpy(r10, a0 + 32, 36);
+    HostState_block_passed(r9, r10, r0_0_0 == 0u);
+    memcpy(a0 + 32, r9, 36);
+    return r0_0_0;
+}
+}
+
+/* mmc_sdhci::watching::watch::<#d002fd087b3dc1c2> */
+static void watching_watch(uint8_t *a0, uint8_t *a1, uint8_t a2, uint8_t a3)
+{
+    uint32_t v;
+    uint8_t r6_0_in_off0_in_v;
+    bool v0;
+    uint32_t r3_016;
+    uint32_t r6_6;
+    bool r6_0_in_off0_lcssa;
+    bool switch_2 = a2 < 2u;
+    v = switch_2 ? 2980u : 10980u;
+    r6_0_in_off0_in_v = (uint8_t)(switch_2 ? 8u : 4u);
+    v0 = a3 == 0u;
+    r3_016 = 0u;
+join_5: {
+    uint8_t r14 = StoryRegistersRegisters_read8(a1, 37u);
+    bool r6_0_in_off0 = (uint8_t)(r14 & r6_0_in_off0_in_v) != 0u;
+    r6_6 = Stream_read_register(a1, 4u, 48u);
+    if (!((uint32_t)(r6_6 & 32768u) == 0u)) {
+        r6_0_in_off0_lcssa = r6_0_in_off0;
+        goto then_6;
+    }
+    switch (a2) {
+    default: {
+        trap();
+        return;
+    }
+    case 0u:
+    case 2u: {
+        if (r6_0_in_off0) {
+            r6_0_in_off0_lcssa = true;
+            goto then_6;
+        }
+        goto join_8;
+    }
+    case 1u:
+    case 3u: {
+        if (v0 ? ((uint32_t)(r6_6 & 2u) != 0u) : r6_0_in_off0) {
+            r6_0_in_off0_lcssa = r6_0_in_off0;
+            goto then_6;
+        }
+        goto join_8;
+    }
+    }
+}
+join_8: {
+    Stream_pause(a1, (r3_016 < 1000u) ? 1u : 50u);
+    uint32_t r49 = r3_016 + 1u;
+    if (r49 != v) {
+        r3_016 = r49;
+        goto join_5;
+    }
+    store32(a0, 0u);
+    goto common_ret;
+}
+then_6: {
+    store32(a0, 1u);
+    a0[4] = (uint8_t)r6_0_in_off0_lcssa;
+    store32(a0 + 8, r6_6);
+}
+common_ret: {
+    return;
+}
+}
+
+/* mmc_host::told::HostState::block_passed */
+static void HostState_block_passed(uint8_t *a0, uint8_t *a1, bool a2)
+{
+    uint8_t r1_2_0;
+    uint8_t r1_3_0;
+    uint16_t r1_42_0;
+    uint8_t r1_83_0;
+    uint32_t r1_94_0;
+    uint32_t r1_10_0;
+    uint32_t r1_11_0;
+    uint32_t r1_12_0;
+    uint8_t r4_0_0;
+    uint16_t r4_5_0;
+    uint16_t r4_3_2_0;
+    r1_2_0 = a1[3];
+    r1_3_0 = a1[4];
+    r1_42_0 = load16(a1 + 6);
+    uint16_t r1_6_1_0 = load16(a1 + 10);
+    uint16_t v0 = load16(a1 + 12);
+    r1_83_0 = a1[16];
+    r1_94_0 = load32(a1 + 20);
+    r1_10_0 = load32(a1 + 24);
+    r1_11_0 = load32(a1 + 28);
+    r1_12_0 = load32(a1 + 32);
+    if (!a2) {
+        r4_0_0 = 0u;
+        r4_5_0 = 0u; /* any */
+        r4_3_2_0 = 0u; /* any */
+        goto join_3;
+    }
+    uint8_t r1_5_0 = a1[8];
+    switch (r1_5_0) {
+    default: {
+        trap();
+        return;
+    }
+    case 1u: {
+        if (!(v0 > 1u)) {
+            r4_0_0 = 0u;
+            r4_5_0 = 0u; /* any */
+            r4_3_2_0 = 0u; /* any */
+            goto join_3;
+        }
+        r4_0_0 = 1u;
+        r4_5_0 = (uint16_t)(v0 + 65535u);
+        r4_3_2_0 = r1_6_1_0;
+        goto join_3;
+    }
+    case 2u: {
+        r4_0_0 = (uint8_t)((r1_6_1_0 > 1u) ? 2u : 0u);
+        r4_5_0 = 0u; /* any */
+        r4_3_2_0 = (uint16_t)(r1_6_1_0 + 65535u);
+        goto join_3;
+    }
+    case 0u: {
+        r4_0_0 = r1_5_0;
+        r4_5_0 = 0u; /* any */
+        r4_3_2_0 = 0u; /* any */
+        goto join_3;
+    }
+    }
+join_3: {
+    {
+        uint8_t moved[3];
+        memcpy(moved, a1, 3);
+        memcpy(a0, moved, 3);
+    }
+    a0[3] = (uint8_t)(r1_2_0 & 1u);
+    a0[4] = (uint8_t)(r1_3_0 & 1u);
+    store16(a0 + 6, r1_42_0);
+    store16(a0 + 8, (uint16_t)r4_0_0);
+    store16(a0 + 10, r4_3_2_0);
+    store16(a0 + 12, r4_5_0);
+    store32(a0 + 16, (uint32_t)r1_83_0);
+    store32(a0 + 20, r1_94_0);
+    store32(a0 + 24, r1_10_0);
+    store32(a0 + 28, r1_11_0);
+    store32(a0 + 32, r1_12_0);
+    return;
+}
+}
+
+/* mmc_switch::sd::switch_func::<#1bed76fd314cf36e> */
+static void sd_switch_func(uint8_t *a0, uint8_t *a1, uint32_t a2)
+{
+    KELIFANDRO_ROOM uint8_t room[64];
+    uint8_t *const r2 = room;
+    uint8_t *const r7 = room;
+    uint8_t r0_3_0_17;
+    host_ask(r7, a1, 6u, a2);
+    if (*r7 != 0u) {
+        r0_3_0_17 = 0u;
+        goto arm_2;
+    }
+    if (!((load32_aligned(r7 + 4) & UINT32_C(0xfd39a000)) == 0u)) {
+        r0_3_0_17 = 2u;
+        goto arm_2;
+    }
+    memset(r2, 0u, 64);
+    uint8_t r41 = data_receive(a1, r2, 64u);
+    if (r41 != 0u) {
+        *a0 = 1u;
+        a0[1] = 1u;
+        goto common_ret;
+    }
+    uint8_t r13_0_0 = *r2;
+    *a0 = 0u;
+    a0[1] = r13_0_0;
+    memcpy(a0 + 2, r2 + 1, 63);
+    goto common_ret;
+arm_2: {
+    *a0 = 1u;
+    a0[1] = r0_3_0_17;
+}
+common_ret: {
+    return;
+}
+}
+
+/* mmc_bus::status::confirm::<#1bed76fd314cf36e> */
+static struct of_i8_i8 status_confirm(uint8_t *a0, uint8_t a1, uint16_t a2)
+{
+    struct of_i8_i8 r13 = status_ask_closing(a0, a1, a2);
+    uint8_t r22 = r13.f1;
+    bool v0 = r13.f0 == 0u;
+    uint8_t spec_select = (uint8_t)(v0 ? r22 : 1u);
+    uint8_t spec_select3 = (uint8_t)(v0 ? 2u : r22);
+    struct of_i8_i8 r37_fca_0_insert = (struct of_i8_i8){spec_select, 0};
+    struct of_i8_i8 r37_fca_1_insert = (struct of_i8_i8){r37_fca_0_insert.f0, spec_select3};
+    return r37_fca_1_insert;
+}
+
+/* mmc_bus::status::ask_closing::<#1bed76fd314cf36e> */
+static struct of_i8_i8 status_ask_closing(uint8_t *a0, uint8_t a1, uint16_t a2)
+{
+    KELIFANDRO_ROOM uint8_t r2[8];
+    host_ask(r2, a0, 13u, (uint32_t)a2 << 16u);
+    struct of_i8_i8 r9 = status_check_closing(a1, r2);
+    return r9;
+}
+
+/* mmc_regs::csd::Csd::sectors */
+static uint64_t Csd_sectors(uint8_t *a0)
+{
+    uint64_t r4_0;
+    u128 r7_0_0 = load128(a0 + 16);
+    switch (*a0) {
+    default: {
+        trap();
+        return 0;
+    }
+    case 0u: {
+        uint64_t r185 = (((uint64_t)((uint64_t)u128_lshr(r7_0_0, 62u).lo & 4095u) + 1u) << (((uint64_t)((uint64_t)((uint64_t)r7_0_0.lo >> 47u) & 7u) + 2u) & 63u)) << (((uint64_t)u128_lshr(r7_0_0, 80u).lo & 15u) & 63u);
+        r4_0 = r185 >> 9u;
+        goto join_5;
+    }
+    case 1u: {
+        r4_0 = ((uint64_t)u128_lshr(r7_0_0, 38u).lo & UINT64_C(0xfffffc00)) + 1024u;
+        goto join_5;
+    }
+    case 2u: {
+        uint64_t r185_19 = (((uint64_t)((uint64_t)u128_lshr(r7_0_0, 62u).lo & 4095u) + 1u) << (((uint64_t)((uint64_t)((uint64_t)r7_0_0.lo >> 47u) & 7u) + 2u) & 63u)) << (((uint64_t)u128_lshr(r7_0_0, 80u).lo & 15u) & 63u);
+        r4_0 = r185_19 >> 9u;
+        goto join_5;
+    }
+    }
+join_5: {
+    return r4_0;
+}
+}
+
+/* mmc_switch::mmc::switch::<#1bed76fd314cf36e> */
+static struct of_i8_i8 mmc_switch(uint8_t *a0, uint16_t a1, uint32_t a2)
+{
+    KELIFANDRO_ROOM uint8_t room[16];
+    uint8_t *const r6 = room;
+    uint8_t *const r2 = room;
+    uint64_t r24;
+    uint64_t r2_05;
+    uint8_t r0_0_0_2;
+    uint8_t r0_4_0_pn;
+    uint8_t r0_0_0;
+    uint8_t r0_4_0_pn_pn;
+    host_ask(r2, a0, 6u, a2);
+    bool v1 = *r2 == 0u;
+    uint32_t v2 = load32_aligned(r2 + 4);
+    if (!(v1 && ((v2 & UINT32_C(0xfd39a080)) == 0u))) {
+        r0_0_0 = 1u;
+        r0_4_0_pn_pn = (uint8_t)(v1 ? 2u : 0u);
+        goto return_5;
+    }
+    wait_count_polls(r6, a0);
+    if (*r6 != 0u) {
+        r0_0_0_2 = 1u;
+        r0_4_0_pn = r6[1];
+        goto mmc_bus_status_wait_and_confirm_1bed76fd314cf36e_exit;
+    }
+    uint64_t r1_4_8 = load64_aligned(r6 + 8);
+    r24 = 16u - r1_4_8;
+    if (r1_4_8 == 16u) {
+        r0_0_0_2 = 1u;
+        r0_4_0_pn = 2u;
+        goto mmc_bus_status_wait_and_confirm_1bed76fd314cf36e_exit;
+    }
+    r2_05 = 0u;
+join_5: {
+    struct of_i8_i8 r19 = status_ask_closing(a0, 1u, a1);
+    uint8_t r28 = r19.f1;
+    if (r19.f0 != 0u) {
+        r0_0_0_2 = 1u;
+        r0_4_0_pn = r28;
+        goto mmc_bus_status_wait_and_confirm_1bed76fd314cf36e_exit;
+    }
+    if (r28 == 0u) {
+        r0_0_0_2 = 0u;
+        r0_4_0_pn = 0u; /* any */
+        goto mmc_bus_status_wait_and_confirm_1bed76fd314cf36e_exit;
+    }
+    uint64_t r41 = r2_05 + 1u;
+    if (r41 == r24) {
+        r0_0_0_2 = 1u;
+        r0_4_0_pn = 2u;
+        goto mmc_bus_status_wait_and_confirm_1bed76fd314cf36e_exit;
+    }
+    r2_05 = r41;
+    goto join_5;
+}
+mmc_bus_status_wait_and_confirm_1bed76fd314cf36e_exit: {
+    r0_0_0 = r0_0_0_2;
+    r0_4_0_pn_pn = r0_4_0_pn;
+}
+return_5: {
+    struct of_i8_i8 r33_fca_0_insert = (struct of_i8_i8){r0_0_0, 0};
+    struct of_i8_i8 r33_fca_1_insert = (struct of_i8_i8){r33_fca_0_insert.f0, r0_4_0_pn_pn};
+    return r33_fca_1_insert;
+}
+}
+
+/* mmc_record::noted::note */
+static void noted_note(uint8_t *a0, uint8_t *a1)
+{
+    KELIFANDRO_ROOM uint8_t r0[104];
+    noted_noted(r0, a1, 1u, 0u);
+    memcpy(a0, r0, 104);
+    return;
+}
+
+/* mmc_record::noted::noted */
+static void noted_noted(uint8_t *a0, uint8_t *a1, uint8_t a2, uint8_t a3)
+{
+    KELIFANDRO_ROOM uint8_t r0_14[16];
+    KELIFANDRO_ROOM uint8_t r0_15[16];
+    uint8_t r4_0_0 = *a1;
+    uint8_t r6_0_0 = a1[1];
+    uint8_t r0_0_0 = a1[145];
+    uint8_t r0_2_1 = a1[146];
+    uint8_t r2 = a1[144];
+    uint8_t r11_0_0 = a1[131];
+    uint8_t r13_0_0 = a1[132];
+    uint8_t r63 = a1[112];
+    uint8_t r71 = a1[129];
+    uint8_t r79 = a1[130];
+    uint8_t r87 = a1[128];
+    uint16_t r92 = load16_aligned(a1 + 2);
+    u128_to_be_bytes(r0_14, load128(a1 + 16));
+    u128_to_be_bytes(r0_15, load128(a1 + 48));
+    uint64_t r105 = load64_aligned(a1 + 64);
+    uint64_t r109 = load64_aligned(a1 + 72);
+    uint64_t r113 = load64_aligned(a1 + 80);
+    uint64_t r117 = load64_aligned(a1 + 88);
+    uint64_t r121 = load64_aligned(a1 + 96);
+    uint64_t r125 = load64_aligned(a1 + 104);
+    uint64_t r128 = load64_aligned(a1 + 120);
+    *a0 = a2;
+    a0[1] = r4_0_0;
+    a0[2] = r6_0_0;
+    a0[3] = (uint8_t)((r0_0_0 == 1u) ? r0_2_1 : 255u);
+    a0[4] = r2;
+    a0[5] = (uint8_t)((uint32_t)UINT32_C(0x80401) >> ((((uint32_t)r11_0_0 << 3u) & UINT32_C(0xffffff)) & 31u));
+    a0[6] = r13_0_0;
+    a0[7] = r63;
+    a0[8] = r71;
+    a0[9] = r79;
+    a0[10] = r87;
+    a0[11] = a3;
+    store16(a0 + 12, r92);
+    memcpy(a0 + 14, r0_14, 16);
+    memcpy(a0 + 30, r0_15, 16);
+    store64(a0 + 48, r105);
+    store64(a0 + 56, r109);
+    store64(a0 + 64, r113);
+    store64(a0 + 72, r117);
+    store64(a0 + 80, r121);
+    store64(a0 + 88, r125);
+    store64(a0 + 96, r128);
+    return;
+}
+
+/* core::int::u128::to_be_bytes */
+static void u128_to_be_bytes(uint8_t *a0, u128 a1)
+{
+    *a0 = (uint8_t)u128_lshr(a1, 120u).lo;
+    a0[1] = (uint8_t)u128_lshr(a1, 112u).lo;
+    a0[2] = (uint8_t)u128_lshr(a1, 104u).lo;
+    a0[3] = (uint8_t)u128_lshr(a1, 96u).lo;
+    a0[4] = (uint8_t)u128_lshr(a1, 88u).lo;
+    a0[5] = (uint8_t)u128_lshr(a1, 80u).lo;
+    a0[6] = (uint8_t)u128_lshr(a1, 72u).lo;
+    a0[7] = (uint8_t)u128_lshr(a1, 64u).lo;
+    a0[8] = (uint8_t)u128_lshr(a1, 56u).lo;
+    a0[9] = (uint8_t)u128_lshr(a1, 48u).lo;
+    a0[10] = (uint8_t)u128_lshr(a1, 40u).lo;
+    a0[11] = (uint8_t)u128_lshr(a1, 32u).lo;
+    a0[12] = (uint8_t)u128_lshr(a1, 24u).lo;
+    a0[13] = (uint8_t)u128_lshr(a1, 16u).lo;
+    a0[14] = (uint8_t)u128_lshr(a1, 8u).lo;
+    a0[15] = (uint8_t)a1.lo;
+    return;
+}
+
+/* kelifandro::hosts::end::<#fb070baa9c134c3e> */
+static void hosts_end(uint8_t *a0, bool a2)
+{
+    KELIFANDRO_ROOM uint8_t r7[84];
+    if (*a0 == 0u) {
+        goto join_4;
+    }
+    memcpy(r7, a0 + 4, 84);
+    if (!(a2 || (r7[40] != 0u))) {
+        goto mmc_sdhci_sdhci_Sdhci_end_d002fd087b3dc1c2_exit;
+    }
+    command_lose_all(r7);
+mmc_sdhci_sdhci_Sdhci_end_d002fd087b3dc1c2_exit: {
+    store16_aligned(r7 + 40, 0u);
+    CRegisters_give_back(r7);
+}
+join_4: {
+    return;
+}
+}
+
+/* c_host::registers::CRegisters::give_back */
+static void CRegisters_give_back(uint8_t *a0)
+{
+    KELIFANDRO_ROOM uint8_t r3[6];
+    if (a0[22] != 1u) {
+        goto join_4;
+    }
+    uint8_t r0_0_0 = a0[24];
+    uint8_t r0_2_0 = a0[25];
+    uint8_t r0_3_0 = a0[26];
+    uint16_t r0_41_0 = load16(a0 + 28);
+    *r3 = 17u;
+    r3[1] = (uint8_t)(r0_0_0 & 1u);
+    r3[2] = r0_2_0;
+    r3[3] = r0_3_0;
+    r3[4] = (uint8_t)r0_41_0;
+    r3[5] = (uint8_t)(uint16_t)((uint32_t)r0_41_0 >> 8u);
+    io_write_all(load32_aligned(a0), r3, 6u);
+    store16_aligned(a0 + 22, 0u);
+join_4: {
+    return;
+}
+}
+
 /* kelifandro::requests::serve_told::<#fb070baa9c134c3e> */
 static uint32_t requests_serve_told(uint8_t *a0, uint8_t *a1, uint8_t *a2, uint8_t *a3, uint8_t *a4, uint64_t a5)
 {
@@ -1181,7 +5014,7 @@ static uint32_t requests_serve_told(uint8_t *a0, uint8_t *a1, uint8_t *a2, uint8
     uint8_t *const r4_2 = room;
     uint8_t *const r15_6 = room;
     uint8_t *const r1 = room;
-    uint8_t *const r22 = room;
+    uint8_t *const r24_2 = room;
     uint8_t *const r8_20 = room;
     uint8_t *const r0_17 = room;
     uint8_t *const r3 = room;
@@ -1193,28 +5026,29 @@ static uint32_t requests_serve_told(uint8_t *a0, uint8_t *a1, uint8_t *a2, uint8
     uint8_t *const r14_15_2_5 = room + 128;
     uint8_t *const r14_15_2_18 = room + 136;
     uint8_t *const r14_15_2_26 = room + 144;
-    uint8_t *const r3_32 = room + 192;
-    uint8_t *const r12_29 = room + 192;
-    uint8_t *const r25 = room + 192;
+    uint8_t *const r3_31 = room + 192;
+    uint8_t *const r14_2 = room + 192;
+    uint8_t *const r27 = room + 192;
     uint8_t *const r31_19 = room + 192;
     uint8_t *const r11 = room + 208;
     uint8_t *const r31_17 = room + 208;
     uint8_t *const r14 = room + 208;
-    uint8_t *const r6_7_6 = room + 384;
+    uint8_t *const r7_7_6 = room + 384;
     KELIFANDRO_ROOM uint8_t room_2[184];
     uint8_t *const r14_7 = room_2;
     uint8_t *const r21_15 = room_2;
     uint8_t *const r23_6_8_0 = room_2 + 24;
     uint8_t *const r23_6_4 = room_2 + 40;
+    KELIFANDRO_ROOM uint8_t r7_0[144];
     KELIFANDRO_ROOM uint8_t room_3[144];
-    uint8_t *const r6_0 = room_3;
     uint8_t *const r31_4_3 = room_3;
-    KELIFANDRO_ROOM uint8_t r4[40];
-    KELIFANDRO_ROOM uint8_t r6_7_0[13];
+    uint8_t *const r4 = room_3;
+    KELIFANDRO_ROOM uint8_t r7_7_0[13];
     uint8_t r9_0_0;
     uint8_t r10_0_0;
-    uint64_t r32;
-    uint64_t r34;
+    uint64_t r33;
+    uint64_t r35;
+    uint16_t r37;
     uint8_t r23;
     u128 r24;
     uint8_t r1_4_16;
@@ -1238,11 +5072,16 @@ static uint32_t requests_serve_told(uint8_t *a0, uint8_t *a1, uint8_t *a2, uint8
     uint32_t r15_3_2_0_ph;
     bool r7_0_in;
     uint8_t r5_0_0;
-    uint8_t r6_6_036;
-    uint8_t r6_5_035;
-    uint8_t r6_4_034;
-    uint64_t r9_033;
-    uint8_t r6_7_4_032;
+    uint64_t spec_select_2;
+    uint8_t r7_6_037;
+    uint8_t r7_5_036;
+    uint8_t r7_4_035;
+    uint64_t r10_034;
+    uint8_t r7_7_4_033;
+    uint8_t r7_7_4_0_lcssa;
+    uint8_t r7_4_0_lcssa;
+    uint8_t r7_5_0_lcssa;
+    uint8_t r7_6_0_lcssa;
     bool v16;
     bool v17;
     uint8_t r31_0_0;
@@ -1250,18 +5089,20 @@ static uint32_t requests_serve_told(uint8_t *a0, uint8_t *a1, uint8_t *a2, uint8
     uint8_t r31_11_0;
     uint8_t r31_14_0;
     uint8_t r31_18_0;
-    uint8_t r11_pn_50;
+    uint8_t r11_pn_49;
     uint32_t r11_0;
     r9_0_0 = *a3;
     r10_0_0 = a3[1];
-    r32 = load64_aligned(a3 + 8);
-    r34 = load64_aligned(a3 + 16);
+    r33 = load64_aligned(a3 + 8);
+    r35 = load64_aligned(a3 + 16);
+    r37 = load16_aligned(a3 + 24);
     *r4 = r9_0_0;
     r4[1] = r10_0_0;
-    store64_aligned(r4 + 8, r32);
-    store64_aligned(r4 + 16, r34);
-    store_pointer_aligned(r4 + 24, a4);
-    store64_aligned(r4 + 32, a5);
+    store64_aligned(r4 + 8, r33);
+    store64_aligned(r4 + 16, r35);
+    store16_aligned(r4 + 24, r37);
+    store_pointer_aligned(r4 + 32, a4);
+    store64_aligned(r4 + 40, a5);
     calls_open_card(r7, a0, a1);
     if (*r7 != 1u) {
         r5_4_3_0_ph = UINT32_C(0xffffffff);
@@ -1332,16 +5173,16 @@ arm_5: {
     r11[147] = r1_4_16;
     r11[148] = r1_5_16;
     memcpy(r11 + 149, r7 + 165, 43);
-    struct of_i8_i8 r11_17 = rules_sectors_refusal(65535u, r9_0_0, r11 + 16, r10_0_0, r32, (r9_0_0 < 2u) ? a5 : r34);
+    struct of_i8_i8 r11_17 = rules_sectors_refusal(65535u, r9_0_0, r11 + 16, r10_0_0, r33, (r9_0_0 < 2u) ? a5 : r35);
     if (r11_17.f0 == 1u) {
-        r11_pn_50 = r11_17.f1;
+        r11_pn_49 = r11_17.f1;
         goto arm_1_11;
     }
     if ((r11[128] & 1u) != 0) {
         if (r9_0_0 == 0u) {
             goto join_4;
         }
-        r11_pn_50 = 4u;
+        r11_pn_49 = 4u;
         goto arm_1_11;
     }
     switch (r9_0_0) {
@@ -1355,13 +5196,13 @@ arm_5: {
     }
     case 2u: {
         uint64_t r18 = load64_aligned(r11 + 136);
-        uint64_t r19 = r34 + r32;
+        uint64_t r19 = r35 + r33;
         if (r18 == 0u) {
             trap();
             return 0;
         }
-        if ((r32 % r18) != 0u) {
-            r11_pn_50 = (uint8_t)(((uint8_t)(r10_0_0 + 255u) < 2u) ? 5u : 7u);
+        if ((r33 % r18) != 0u) {
+            r11_pn_49 = (uint8_t)(((uint8_t)(r10_0_0 + 255u) < 2u) ? 5u : 7u);
             goto arm_1_11;
         }
         if ((r19 % r18) == 0u) {
@@ -1377,7 +5218,7 @@ arm_5: {
         if (switch_8 && ((r11[145] & 1u) != 0)) {
             goto join_4;
         }
-        r11_pn_50 = (uint8_t)(switch_8 ? 6u : 5u);
+        r11_pn_49 = (uint8_t)(switch_8 ? 6u : 5u);
         goto arm_1_11;
     }
     }
@@ -1385,7 +5226,7 @@ arm_5: {
 mmc_direct_rules_refusal_exit: {
     bool switch_2 = (uint8_t)(r10_0_0 + 255u) < 2u;
     if (switch_2 || r7_0_in) {
-        r11_pn_50 = (uint8_t)(switch_2 ? 5u : 7u);
+        r11_pn_49 = (uint8_t)(switch_2 ? 5u : 7u);
         goto arm_1_11;
     }
 }
@@ -1464,88 +5305,104 @@ mmc_direct_going_on_go_on_d568f3fc8d51bff2_exit: {
     memcpy(r14_7 + 164, r0_17, 17);
     memcpy(r1 + 16, r11 + 16, 176);
     store128_aligned(r1, r24);
-    attempts_attempt(r12_29, r14_7, a2, r1, r4);
-    if (*r12_29 == 0u) {
-        uint8_t r7_2_144 = r12_29[160];
-        uint8_t r7_4_145 = r12_29[161];
-        uint8_t r7_6_146 = r12_29[162];
+    uint16_t narrow = (uint16_t)((r37 == 0u) ? 4u : r37);
+    spec_select_2 = (uint64_t)narrow;
+    attempts_attempt(r14_2, r14_7, a2, r1, r4);
+    if (*r14_2 == 0u) {
+        uint8_t r8_2_144 = r14_2[160];
+        uint8_t r8_4_145 = r14_2[161];
+        uint8_t r8_6_146 = r14_2[162];
         counting_count_done(a2);
-        memcpy(r31_4_3, r12_29 + 16, 144);
+        memcpy(r31_4_3, r14_2 + 16, 144);
         v16 = true;
         v17 = false;
         r31_0_0 = 0u;
-        r31_8_0 = r7_2_144;
-        r31_11_0 = r7_4_145;
-        r31_14_0 = r7_6_146;
+        r31_8_0 = r8_2_144;
+        r31_11_0 = r8_4_145;
+        r31_14_0 = r8_6_146;
         r31_18_0 = 0u; /* any */
         goto mmc_direct_retries_keep_trying_46e1a3910cf7860d_exit;
     }
-    memcpy(r6_0, r12_29 + 16, 144);
-    uint8_t r8_2_0 = r12_29[160];
-    uint8_t r8_3_0 = r12_29[161];
-    uint8_t r8_4_0 = r12_29[162];
-    memcpy(r6_7_0, r12_29 + 163, 13);
-    uint8_t r8_6_0 = r12_29[176];
-    memcpy(r6_7_6, r12_29 + 177, 15);
-    counting_count_failed(a2, r8_6_0);
-    r6_6_036 = r8_4_0;
-    r6_5_035 = r8_3_0;
-    r6_4_034 = r8_2_0;
-    r9_033 = 1u;
-    r6_7_4_032 = r8_6_0;
+    memcpy(r7_0, r14_2 + 16, 144);
+    uint8_t r9_2_0 = r14_2[160];
+    uint8_t r9_3_0 = r14_2[161];
+    uint8_t r9_4_0 = r14_2[162];
+    memcpy(r7_7_0, r14_2 + 163, 13);
+    uint8_t r9_6_0 = r14_2[176];
+    memcpy(r7_7_6, r14_2 + 177, 15);
+    counting_count_failed(a2, r9_6_0);
+    if (!(narrow > 1u)) {
+        r7_7_4_0_lcssa = r9_6_0;
+        r7_4_0_lcssa = r9_2_0;
+        r7_5_0_lcssa = r9_3_0;
+        r7_6_0_lcssa = r9_4_0;
+        goto after_5;
+    }
+    r7_6_037 = r9_4_0;
+    r7_5_036 = r9_3_0;
+    r7_4_035 = r9_2_0;
+    r10_034 = 1u;
+    r7_7_4_033 = r9_6_0;
 }
 join_9: {
-    store128_aligned(r25, u128_of(0u, 1u));
-    memcpy(r25 + 16, r6_0, 144);
-    r25[160] = r6_4_034;
-    r25[161] = r6_5_035;
-    r25[162] = r6_6_036;
-    memcpy(r25 + 163, r6_7_0, 13);
-    r25[176] = r6_7_4_032;
-    memcpy(r25 + 177, r6_7_6, 15);
-    attempts_attempt(r22, r14_7, a2, r25, r4);
-    if (*r22 == 0u) {
-        uint8_t r10_2_144 = r22[160];
-        uint8_t r10_4_145 = r22[161];
-        uint8_t r10_6_146 = r22[162];
+    store128_aligned(r27, u128_of(0u, 1u));
+    memcpy(r27 + 16, r7_0, 144);
+    r27[160] = r7_4_035;
+    r27[161] = r7_5_036;
+    r27[162] = r7_6_037;
+    memcpy(r27 + 163, r7_7_0, 13);
+    r27[176] = r7_7_4_033;
+    memcpy(r27 + 177, r7_7_6, 15);
+    attempts_attempt(r24_2, r14_7, a2, r27, r4);
+    if (*r24_2 == 0u) {
+        uint8_t r11_2_144 = r24_2[160];
+        uint8_t r11_4_145 = r24_2[161];
+        uint8_t r11_6_146 = r24_2[162];
         counting_count_done(a2);
-        memcpy(r31_4_3, r22 + 16, 144);
+        memcpy(r31_4_3, r24_2 + 16, 144);
         v16 = true;
         v17 = false;
         r31_0_0 = 0u;
-        r31_8_0 = r10_2_144;
-        r31_11_0 = r10_4_145;
-        r31_14_0 = r10_6_146;
+        r31_8_0 = r11_2_144;
+        r31_11_0 = r11_4_145;
+        r31_14_0 = r11_6_146;
         r31_18_0 = 0u; /* any */
         goto mmc_direct_retries_keep_trying_46e1a3910cf7860d_exit;
     }
-    memcpy(r6_0, r22 + 16, 144);
-    uint8_t r11_2_0 = r22[160];
-    uint8_t r11_3_0 = r22[161];
-    uint8_t r11_4_0 = r22[162];
-    memcpy(r6_7_0, r22 + 163, 13);
-    uint8_t r11_6_0 = r22[176];
-    memcpy(r6_7_6, r22 + 177, 15);
-    counting_count_failed(a2, r11_6_0);
-    uint64_t r94 = r9_033 + 1u;
-    if (r94 != 4u) {
-        r6_6_036 = r11_4_0;
-        r6_5_035 = r11_3_0;
-        r6_4_034 = r11_2_0;
-        r9_033 = r94;
-        r6_7_4_032 = r11_6_0;
-        goto join_9;
+    memcpy(r7_0, r24_2 + 16, 144);
+    uint8_t r12_2_0 = r24_2[160];
+    uint8_t r12_3_0 = r24_2[161];
+    uint8_t r12_4_0 = r24_2[162];
+    memcpy(r7_7_0, r24_2 + 163, 13);
+    uint8_t r12_6_0 = r24_2[176];
+    memcpy(r7_7_6, r24_2 + 177, 15);
+    counting_count_failed(a2, r12_6_0);
+    uint64_t r99 = r10_034 + 1u;
+    if (r99 == spec_select_2) {
+        r7_7_4_0_lcssa = r12_6_0;
+        r7_4_0_lcssa = r12_2_0;
+        r7_5_0_lcssa = r12_3_0;
+        r7_6_0_lcssa = r12_4_0;
+        goto after_5;
     }
-    memcpy(r31_4_3, r22 + 16, 144);
-    memcpy(r31_17, r22 + 163, 13);
-    memcpy(r31_19, r22 + 177, 15);
+    r7_6_037 = r12_4_0;
+    r7_5_036 = r12_3_0;
+    r7_4_035 = r12_2_0;
+    r10_034 = r99;
+    r7_7_4_033 = r12_6_0;
+    goto join_9;
+}
+after_5: {
+    memcpy(r31_4_3, r7_0, 144);
+    memcpy(r31_17, r7_7_0, 13);
+    memcpy(r31_19, r7_7_6, 15);
     v16 = false;
     v17 = true;
     r31_0_0 = 1u;
-    r31_8_0 = r11_2_0;
-    r31_11_0 = r11_3_0;
-    r31_14_0 = r11_4_0;
-    r31_18_0 = r11_6_0;
+    r31_8_0 = r7_4_0_lcssa;
+    r31_11_0 = r7_5_0_lcssa;
+    r31_14_0 = r7_6_0_lcssa;
+    r31_18_0 = r7_7_4_0_lcssa;
 }
 mmc_direct_retries_keep_trying_46e1a3910cf7860d_exit: {
     store128_aligned(r15, u128_of(0u, r31_0_0));
@@ -1557,13 +5414,13 @@ mmc_direct_retries_keep_trying_46e1a3910cf7860d_exit: {
     r15[176] = r31_18_0;
     memcpy(r15 + 177, r31_19, 15);
     if (v16) {
-        noted_note(r3_32, r15 + 16);
+        noted_note(r3_31, r15 + 16);
         goto kelifandro_requests_let_go_fb070baa9c134c3e_exit;
     }
-    noted_note_broken(r3_32, r15 + 16);
+    noted_note_broken(r3_31, r15 + 16);
 }
 kelifandro_requests_let_go_fb070baa9c134c3e_exit: {
-    memcpy(a1, r3_32, 104);
+    memcpy(a1, r3_31, 104);
     uint32_t r14_15_2_0_0_54 = load32_aligned(r14_7);
     uint8_t r14_15_2_3_0_55 = r14_7[4];
     uint8_t r14_15_2_4_0_56 = r14_7[5];
@@ -1664,143 +5521,11 @@ arm_5_11: {
     memcpy(r15_6 + 81, r14_15_2_26, 3);
     store32_aligned(r15_6 + 84, r15_6_9_20_0_ph);
     hosts_end(r15_6, false);
-    r11_0 = load32_aligned(at((uint8_t *)bytes_answers_refused_number, (uint64_t)r11_pn_50 * 4u));
+    r11_0 = load32_aligned(at((uint8_t *)bytes_answers_refused_number, (uint64_t)r11_pn_49 * 4u));
 }
 kelifandro_requests_told_fb070baa9c134c3e_exit: {
     return r11_0;
 }
-}
-
-/* c_host::registers::CRegistersRegisters::read32 */
-static uint32_t CRegistersRegisters_read32(uint8_t *a0, uint8_t a1)
-{
-    uint32_t r3_0;
-    uint32_t r6 = Stream_read_register(a0, 4u, a1);
-    switch (a1) {
-    default: {
-        r3_0 = r6;
-        goto sdhci_board_known_Known_shown_exit;
-    }
-    case 36u: {
-        r3_0 = (a0[4] == 1u) ? (r6 | UINT32_C(0xf0000)) : r6;
-        goto sdhci_board_known_Known_shown_exit;
-    }
-    case 64u: {
-        r3_0 = (a0[8] == 1u) ? load32(a0 + 12) : r6;
-        goto sdhci_board_known_Known_shown_exit;
-    }
-    }
-sdhci_board_known_Known_shown_exit: {
-    return r3_0;
-}
-}
-
-/* sdhci_story::registers::StoryRegistersRegisters::read8::<#52343085cde207f1> */
-static uint8_t StoryRegistersRegisters_read8(uint8_t *a0, uint8_t a1)
-{
-    uint8_t r2_0;
-    if ((a0[16] & 1u) != 0) {
-        uint8_t r14 = CRegisters_read_in_word(a0, a1);
-        r2_0 = r14;
-        goto c_host_registers_CRegistersRegisters_read8_exit;
-    }
-    uint32_t r16 = Stream_read_register(a0, 1u, a1);
-    r2_0 = (uint8_t)r16;
-c_host_registers_CRegistersRegisters_read8_exit: {
-    return r2_0;
-}
-}
-
-/* c_host::registers::CRegisters::read_in_word */
-static uint8_t CRegisters_read_in_word(uint8_t *a0, uint8_t a1)
-{
-    KELIFANDRO_ROOM uint8_t r2[4];
-    uint32_t r7 = CRegistersRegisters_read32(a0, (uint8_t)(a1 & 252u));
-    store32_aligned(r2, r7);
-    uint8_t r15 = *at(r2, (uint64_t)(uint8_t)(a1 & 3u));
-    return r15;
-}
-
-/* mmc_record::noted::note */
-static void noted_note(uint8_t *a0, uint8_t *a1)
-{
-    KELIFANDRO_ROOM uint8_t r0[104];
-    noted_noted(r0, a1, 1u, 0u);
-    memcpy(a0, r0, 104);
-    return;
-}
-
-/* mmc_record::noted::noted */
-static void noted_noted(uint8_t *a0, uint8_t *a1, uint8_t a2, uint8_t a3)
-{
-    KELIFANDRO_ROOM uint8_t r0_14[16];
-    KELIFANDRO_ROOM uint8_t r0_15[16];
-    uint8_t r4_0_0 = *a1;
-    uint8_t r6_0_0 = a1[1];
-    uint8_t r0_0_0 = a1[145];
-    uint8_t r0_2_1 = a1[146];
-    uint8_t r2 = a1[144];
-    uint8_t r11_0_0 = a1[131];
-    uint8_t r13_0_0 = a1[132];
-    uint8_t r63 = a1[112];
-    uint8_t r71 = a1[129];
-    uint8_t r79 = a1[130];
-    uint8_t r87 = a1[128];
-    uint16_t r92 = load16_aligned(a1 + 2);
-    u128_to_be_bytes(r0_14, load128(a1 + 16));
-    u128_to_be_bytes(r0_15, load128(a1 + 48));
-    uint64_t r105 = load64_aligned(a1 + 64);
-    uint64_t r109 = load64_aligned(a1 + 72);
-    uint64_t r113 = load64_aligned(a1 + 80);
-    uint64_t r117 = load64_aligned(a1 + 88);
-    uint64_t r121 = load64_aligned(a1 + 96);
-    uint64_t r125 = load64_aligned(a1 + 104);
-    uint64_t r128 = load64_aligned(a1 + 120);
-    *a0 = a2;
-    a0[1] = r4_0_0;
-    a0[2] = r6_0_0;
-    a0[3] = (uint8_t)((r0_0_0 == 1u) ? r0_2_1 : 255u);
-    a0[4] = r2;
-    a0[5] = (uint8_t)((uint32_t)UINT32_C(0x80401) >> ((((uint32_t)r11_0_0 << 3u) & UINT32_C(0xffffff)) & 31u));
-    a0[6] = r13_0_0;
-    a0[7] = r63;
-    a0[8] = r71;
-    a0[9] = r79;
-    a0[10] = r87;
-    a0[11] = a3;
-    store16(a0 + 12, r92);
-    memcpy(a0 + 14, r0_14, 16);
-    memcpy(a0 + 30, r0_15, 16);
-    store64(a0 + 48, r105);
-    store64(a0 + 56, r109);
-    store64(a0 + 64, r113);
-    store64(a0 + 72, r117);
-    store64(a0 + 80, r121);
-    store64(a0 + 88, r125);
-    store64(a0 + 96, r128);
-    return;
-}
-
-/* core::int::u128::to_be_bytes */
-static void u128_to_be_bytes(uint8_t *a0, u128 a1)
-{
-    *a0 = (uint8_t)u128_lshr(a1, 120u).lo;
-    a0[1] = (uint8_t)u128_lshr(a1, 112u).lo;
-    a0[2] = (uint8_t)u128_lshr(a1, 104u).lo;
-    a0[3] = (uint8_t)u128_lshr(a1, 96u).lo;
-    a0[4] = (uint8_t)u128_lshr(a1, 88u).lo;
-    a0[5] = (uint8_t)u128_lshr(a1, 80u).lo;
-    a0[6] = (uint8_t)u128_lshr(a1, 72u).lo;
-    a0[7] = (uint8_t)u128_lshr(a1, 64u).lo;
-    a0[8] = (uint8_t)u128_lshr(a1, 56u).lo;
-    a0[9] = (uint8_t)u128_lshr(a1, 48u).lo;
-    a0[10] = (uint8_t)u128_lshr(a1, 40u).lo;
-    a0[11] = (uint8_t)u128_lshr(a1, 32u).lo;
-    a0[12] = (uint8_t)u128_lshr(a1, 24u).lo;
-    a0[13] = (uint8_t)u128_lshr(a1, 16u).lo;
-    a0[14] = (uint8_t)u128_lshr(a1, 8u).lo;
-    a0[15] = (uint8_t)a1.lo;
-    return;
 }
 
 /* mmc_record::noted::note_broken */
@@ -1809,101 +5534,6 @@ static void noted_note_broken(uint8_t *a0, uint8_t *a1)
     KELIFANDRO_ROOM uint8_t r0[104];
     noted_noted(r0, a1, (uint8_t)(a1[161] | 2u), a1[160]);
     memcpy(a0, r0, 104);
-    return;
-}
-
-/* c_host::way::WayHost::set_ios::<#b4302b8119c90b07> */
-static void WayHost_set_ios(uint8_t *a0, uint8_t *a1)
-{
-    KELIFANDRO_ROOM uint8_t r0[3];
-    uint8_t r0_0_0 = *a1;
-    uint8_t r0_3_0 = a1[1];
-    uint8_t r0_4_0 = a1[2];
-    if (*a0 == 0u) {
-        *r0 = r0_0_0;
-        r0[1] = r0_3_0;
-        r0[2] = r0_4_0;
-        CFunctionsHost_set_ios(a0 + 4, r0);
-        goto join_4;
-    }
-    uint32_t r9 = load32_aligned(a0 + 76);
-    uint8_t r11 = a0[80];
-    bool v1 = r0_3_0 == 0u;
-    StoryRegistersRegisters_write8(a0 + 4, 40u, (uint8_t)((uint8_t)(v1 ? 0u : 4u) | (uint8_t)((uint32_t)UINT32_C(0x200200) >> ((((uint32_t)r0_0_0 << 3u) & UINT32_C(0xffffff)) & 31u))));
-    clock_set_clock(a0 + 4, r9, r11, ((r0_4_0 & 1u) != 0) ? UINT32_C(0x61a80) : (v1 ? UINT32_C(0x17d7840) : UINT32_C(0x2faf080)));
-    a0[36] = r0_0_0;
-    a0[37] = r0_3_0;
-    a0[38] = r0_4_0;
-    a0[72] = 1u;
-join_4: {
-    return;
-}
-}
-
-/* c_host::functions::CFunctionsHost::set_ios */
-static void CFunctionsHost_set_ios(uint8_t *a0, uint8_t *a1)
-{
-    KELIFANDRO_ROOM uint8_t r3[7];
-    uint8_t r0_0_0 = *a1;
-    uint8_t r0_2_0 = a1[1];
-    uint8_t r0_3_0 = a1[2];
-    *r3 = 5u;
-    r3[1] = (uint8_t)((uint32_t)UINT32_C(0x80401) >> ((((uint32_t)r0_0_0 << 3u) & UINT32_C(0xffffff)) & 31u));
-    r3[2] = r0_2_0;
-    store32(r3 + 3, ((r0_3_0 & 1u) != 0) ? UINT32_C(0x61a80) : ((r0_2_0 == 0u) ? UINT32_C(0x17d7840) : UINT32_C(0x2faf080)));
-    io_write_all(load32_aligned(a0), r3, 7u);
-    return;
-}
-
-/* mmc_sdhci::clock::set_clock::<#d002fd087b3dc1c2> */
-static void clock_set_clock(uint8_t *a0, uint32_t a1, uint8_t a2, uint32_t a3)
-{
-    uint32_t common_ret_op;
-    uint32_t r13_6;
-    uint32_t r0_04;
-    uint32_t r5 = a1 * UINT32_C(0xf4240);
-    if (!(r5 > a3)) {
-        common_ret_op = 0u;
-        goto mmc_sdhci_clock_divider_exit;
-    }
-    uint32_t r12 = (r5 + UINT32_C(0xffffffff)) / (a3 << 1u);
-    if (!(a2 < 2u)) {
-        common_ret_op = r12 + 1u;
-        goto mmc_sdhci_clock_divider_exit;
-    }
-    common_ret_op = (uint32_t)1u << (((0u - ctlz32(r12)) & 31u) & 31u);
-mmc_sdhci_clock_divider_exit: {
-    r13_6 = ((uint32_t)(common_ret_op << 8u) & 65280u) + ((common_ret_op >> 2u) & UINT32_C(0x3fffffc0));
-    Stream_write_register(a0, 4u, 44u, UINT32_C(0xe0000));
-    Stream_write_register(a0, 4u, 44u, r13_6 + UINT32_C(0xe0001));
-    r0_04 = 0u;
-}
-join_5: {
-    uint8_t r15 = StoryRegistersRegisters_read8(a0, 44u);
-    if (!((uint8_t)(r15 & 2u) == 0u)) {
-        goto mmc_sdhci_settling_settle_clock_d002fd087b3dc1c2_exit;
-    }
-    Stream_pause(a0, 100u);
-    uint32_t r27 = r0_04 + 1u;
-    if (r27 != 1500u) {
-        r0_04 = r27;
-        goto join_5;
-    }
-    StoryRegistersRegisters_read8(a0, 44u);
-}
-mmc_sdhci_settling_settle_clock_d002fd087b3dc1c2_exit: {
-    Stream_write_register(a0, 4u, 44u, r13_6 + UINT32_C(0xe0005));
-    return;
-}
-}
-
-/* c_host::stream::Stream::pause */
-static void Stream_pause(uint8_t *a0, uint32_t a1)
-{
-    KELIFANDRO_ROOM uint8_t r15[5];
-    *r15 = 6u;
-    store32(r15 + 1, a1);
-    io_write_all(load32_aligned(a0), r15, 5u);
     return;
 }
 
@@ -2397,8 +6027,8 @@ mmc_direct_attempts_prepared_1bed76fd314cf36e_exit: {
         return;
     }
     case 0u: {
-        r37 = load64_aligned(a4 + 32);
-        r39 = load_pointer_aligned(a4 + 24);
+        r37 = load64_aligned(a4 + 40);
+        r39 = load_pointer_aligned(a4 + 32);
         *r8_2 = r1_0_0_0;
         r8_2[1] = r1_0_2_0;
         store16_aligned(r8_2 + 2, r1_0_3_0);
@@ -2422,8 +6052,8 @@ mmc_direct_attempts_prepared_1bed76fd314cf36e_exit: {
         goto loop_2;
     }
     case 1u: {
-        r54_15 = load64_aligned(a4 + 32);
-        r56_16 = load_pointer_aligned(a4 + 24);
+        r54_15 = load64_aligned(a4 + 40);
+        r56_16 = load_pointer_aligned(a4 + 32);
         *r8_21 = r1_0_0_0;
         r8_21[1] = r1_0_2_0;
         store16_aligned(r8_21 + 2, r1_0_3_0);
@@ -3696,1483 +7326,6 @@ static void order_show_status(uint8_t *a0, uint8_t *a1, uint16_t a2)
     return;
 }
 
-/* mmc_bus::host::ask::<#1bed76fd314cf36e> */
-static void host_ask(uint8_t *a0, uint8_t *a1, uint8_t a2, uint32_t a3)
-{
-    KELIFANDRO_ROOM uint8_t room[18];
-    uint8_t *const r1 = room;
-    uint8_t *const r4 = room;
-    KELIFANDRO_ROOM uint8_t room_2[18];
-    uint8_t *const r0 = room_2;
-    uint8_t *const r2 = room_2;
-    frame_framed(r4, (uint8_t)(a2 | 64u), a3);
-    HostBusBus_command(r2, a1, r4, (uint8_t)((a2 == 9u) ? 2u : 1u));
-    *r1 = *r2;
-    memcpy(r1 + 1, r2 + 1, 17);
-    host_response_in(r0, r1, a2);
-    *a0 = *r0;
-    a0[1] = r0[1];
-    store32(a0 + 4, load32_aligned(r0 + 4));
-    return;
-}
-
-/* mmc_frame::frame::framed */
-static void frame_framed(uint8_t *a0, uint8_t a1, uint32_t a2)
-{
-    KELIFANDRO_ROOM uint8_t r17[5];
-    uint32_t r4_0_0_insert_insert;
-    uint8_t r3_05;
-    uint64_t r4_04;
-    r4_0_0_insert_insert = bswap32(a2);
-    *r17 = a1;
-    store32(r17 + 1, r4_0_0_insert_insert);
-    r3_05 = 0u;
-    r4_04 = 0u;
-join_6: {
-    uint8_t r18 = *at((uint8_t *)bytes_static_0, (uint64_t)(uint8_t)(*at(r17, r4_04) ^ (uint8_t)((uint32_t)r3_05 << 1u)));
-    uint64_t r28 = r4_04 + 1u;
-    if (r28 != 5u) {
-        r3_05 = r18;
-        r4_04 = r28;
-        goto join_6;
-    }
-    *a0 = a1;
-    store32(a0 + 1, r4_0_0_insert_insert);
-    a0[5] = (uint8_t)((uint8_t)((uint32_t)r18 << 1u) | 1u);
-    return;
-}
-}
-
-/* mmc_host::host_bus::HostBusBus::command::<#d568f3fc8d51bff2> */
-static void HostBusBus_command(uint8_t *a0, uint8_t *a1, uint8_t *a2, uint8_t a3)
-{
-    KELIFANDRO_ROOM uint8_t r0[18];
-    KELIFANDRO_ROOM uint8_t r1[6];
-    memcpy(r1, a2, 6);
-    HostBusBus_begin(r0, a1, r1, a3, 65535u);
-    *a0 = *r0;
-    memcpy(a0 + 1, r0 + 1, 17);
-    return;
-}
-
-/* mmc_host::host_bus::HostBusBus::begin::<#d568f3fc8d51bff2> */
-static void HostBusBus_begin(uint8_t *a0, uint8_t *a1, uint8_t *a2, uint8_t a3, uint16_t a4)
-{
-    KELIFANDRO_ROOM uint8_t room[76];
-    uint8_t *const r2 = room;
-    uint8_t *const r4_2 = room;
-    uint8_t *const r12 = room;
-    uint8_t *const r11 = room;
-    uint8_t *const r22 = room;
-    uint8_t *const r4 = room;
-    uint8_t *const r5 = room;
-    uint8_t *const r11_2 = room;
-    uint8_t *const r0 = room + 24;
-    uint8_t *const r5_2 = room + 24;
-    uint8_t *const r1 = room + 24;
-    uint8_t *const r0_2 = room + 24;
-    uint8_t *const r12_2 = room + 40;
-    uint8_t *const r4_14 = room + 48;
-    uint8_t *const r21 = room + 48;
-    uint8_t *const r4_5 = room + 48;
-    KELIFANDRO_ROOM uint8_t r13_2[16];
-    KELIFANDRO_ROOM uint8_t r3_2[16];
-    KELIFANDRO_ROOM uint8_t r3[6];
-    KELIFANDRO_ROOM uint8_t r3_10[3];
-    bool r23_not_3;
-    uint8_t r1_0_0;
-    bool spec_select;
-    uint8_t r4_2_0;
-    uint8_t r5_2_0;
-    uint8_t r5_0_0_2;
-    uint8_t a1_2;
-    uint8_t r29;
-    bool r43;
-    uint32_t r1_413_0;
-    uint8_t r1_5_0;
-    uint8_t r1_620_0;
-    uint16_t r1_725_0;
-    uint16_t r1_8_0;
-    uint8_t r11_41_0_off0;
-    uint8_t r11_41_0_off8;
-    uint8_t r11_7_0_off0;
-    uint8_t r11_7_0_off8;
-    uint8_t r4_0_0_2;
-    uint8_t r4_5_0;
-    uint8_t r4_10_0;
-    uint8_t r0_4_4;
-    uint8_t r0_2_1;
-    uint8_t r0_0_0;
-    uint32_t r8_6_2_0;
-    uint64_t r8_6_3_0;
-    uint32_t common_ret_op;
-    uint8_t r4_0_0;
-    memcpy(r3, a2, 6);
-    command_read_command(r4, a2);
-    if (*r4 != 1u) {
-        a1[180] = 1u;
-        r4_0_0 = 0u;
-        goto mmc_host_host_bus_HostBus_carry_d568f3fc8d51bff2_exit;
-    }
-    uint8_t r13 = r4[4];
-    uint32_t r16 = load32_aligned(r4 + 8);
-    memcpy(r5, a1 + 144, 36);
-    HostState_command(r3_2, r5, r13, r16, umax16(a4, 1u));
-    if (r13 > 63u) {
-        goto join_9;
-    }
-    r23_not_3 = a1[152] == 0u;
-    if (!((r3_2[10] == 0u) || r23_not_3)) {
-        goto join_9;
-    }
-    r1_0_0 = *r3_2;
-    spec_select = ((a1[147] & 1u) != 0) || (r1_0_0 == 0u);
-    r4_2_0 = a1[89];
-    uint8_t r5_0_0 = a1[90];
-    r5_2_0 = a1[91];
-    switch (a1[88]) {
-    default: {
-        trap();
-        return;
-    }
-    case 0u: {
-        goto after_2;
-    }
-    case 1u: {
-        if (r5_0_0 == 0u) {
-            goto after_2;
-        }
-        r5_0_0_2 = 1u;
-        goto mmc_host_limits_limited_exit;
-    }
-    case 2u: {
-        r5_0_0_2 = r5_0_0;
-        goto mmc_host_limits_limited_exit;
-    }
-    }
-after_2: {
-    r5_0_0_2 = 0u;
-}
-mmc_host_limits_limited_exit: {
-    a1_2 = (uint8_t)((r4_2_0 == 0u) ? 0u : r5_2_0);
-    r29 = (uint8_t)spec_select;
-    if (a1[146] != r29) {
-        goto then_2;
-    }
-    if (r5_0_0_2 != a1[144]) {
-        goto then_2;
-    }
-    if ((a1_2 != a1[145]) && r23_not_3) {
-        goto then_5;
-    }
-    goto mmc_host_host_bus_HostBus_set_ios_d568f3fc8d51bff2_exit;
-}
-then_2: {
-    if (r23_not_3) {
-        goto then_5;
-    }
-    goto mmc_host_host_bus_HostBus_set_ios_d568f3fc8d51bff2_exit;
-}
-then_5: {
-    *r12 = r5_0_0_2;
-    r12[1] = a1_2;
-    r12[2] = r29;
-    WayHost_set_ios(a1, r12);
-    *r12 = r5_0_0_2;
-    r12[1] = a1_2;
-    r12[2] = r29;
-    memcpy(a1 + 144, r12, 3);
-}
-mmc_host_host_bus_HostBus_set_ios_d568f3fc8d51bff2_exit: {
-    r43 = (a1[148] & 1u) != 0;
-    *r1 = r1_0_0;
-    memcpy(r1 + 1, r3_2 + 1, 15);
-    if (*a1 != 0u) {
-        SdhciHost_send(r4_2, a1 + 4, r1);
-        r0_4_4 = r4_2[4];
-        r0_2_1 = r4_2[1];
-        r0_0_0 = *r4_2;
-        goto c_host_way_WayHost_send_b4302b8119c90b07_exit;
-    }
-    r1_413_0 = load32_aligned(r1 + 4);
-    r1_5_0 = r1[8];
-    r1_620_0 = r1[10];
-    r1_725_0 = load16_aligned(r1 + 12);
-    r1_8_0 = load16_aligned(r1 + 14);
-    switch (r1_0_0) {
-    default: {
-        goto join_3;
-    }
-    case 1u: {
-        if ((a1[12] & 1u) != 0) {
-            goto join_3;
-        }
-        r4_0_0_2 = 1u;
-        r4_5_0 = 0u;
-        r4_10_0 = 0u; /* any */
-        goto mmc_story_host_StoryHostHost_send_051560a3ce3af2be_exit;
-    }
-    case 41u: {
-        if ((a1[11] & 1u) != 0) {
-            goto join_3;
-        }
-        r4_0_0_2 = 1u;
-        r4_5_0 = 0u;
-        r4_10_0 = 0u; /* any */
-        goto mmc_story_host_StoryHostHost_send_051560a3ce3af2be_exit;
-    }
-    }
-}
-join_3: {
-    memset(r2, 0u, 24);
-    switch (r1_620_0) {
-    default: {
-        trap();
-        return;
-    }
-    case 0u: {
-        r11_41_0_off0 = r1_620_0;
-        r11_41_0_off8 = r1_620_0;
-        r11_7_0_off0 = r1_620_0;
-        r11_7_0_off8 = r1_620_0;
-        goto c_host_stream_Stream_send_exit;
-    }
-    case 1u: {
-        r11_41_0_off0 = (uint8_t)r1_725_0;
-        r11_41_0_off8 = (uint8_t)(uint16_t)((uint32_t)r1_725_0 >> 8u);
-        r11_7_0_off0 = (uint8_t)r1_8_0;
-        r11_7_0_off8 = (uint8_t)(uint16_t)((uint32_t)r1_8_0 >> 8u);
-        goto c_host_stream_Stream_send_exit;
-    }
-    case 2u: {
-        r11_41_0_off0 = 0u;
-        r11_41_0_off8 = 2u;
-        r11_7_0_off0 = (uint8_t)r1_725_0;
-        r11_7_0_off8 = (uint8_t)(uint16_t)((uint32_t)r1_725_0 >> 8u);
-        goto c_host_stream_Stream_send_exit;
-    }
-    }
-}
-c_host_stream_Stream_send_exit: {
-    *r5_2 = 1u;
-    r5_2[1] = r1_0_0;
-    r5_2[2] = r1_5_0;
-    r5_2[3] = r1_620_0;
-    store32_aligned(r5_2 + 4, r1_413_0);
-    r5_2[8] = r11_41_0_off0;
-    r5_2[9] = r11_41_0_off8;
-    r5_2[10] = r11_7_0_off0;
-    r5_2[11] = r11_7_0_off8;
-    Stream_ask(a1 + 4, r5_2, 12u, r2, 24u);
-    records_heard_by(r0, r1_5_0, r2);
-    uint8_t v4 = *r0;
-    uint8_t v5 = r0[1];
-    uint8_t v6 = r0[4];
-    memcpy(r4_14, r0 + 5, 15);
-    r4_0_0_2 = v4;
-    r4_5_0 = v5;
-    r4_10_0 = v6;
-}
-mmc_story_host_StoryHostHost_send_051560a3ce3af2be_exit: {
-    memcpy(r4_2 + 5, r4_14, 15);
-    r0_4_4 = r4_10_0;
-    r0_2_1 = r4_5_0;
-    r0_0_0 = r4_0_0_2;
-}
-c_host_way_WayHost_send_b4302b8119c90b07_exit: {
-    memcpy(r3_10, r4_2 + 5, 3);
-    r8_6_2_0 = load32_aligned(r4_2 + 8);
-    r8_6_3_0 = load64(r4_2 + 12);
-    memcpy(r12_2, a1 + 144, 36);
-    *r13_2 = r1_0_0;
-    memcpy(r13_2 + 1, r3_2 + 1, 15);
-    bool v7 = r0_0_0 == 0u;
-    HostState_sent(r11, r12_2, r13_2, v7);
-    memcpy(a1 + 144, r11, 36);
-    if (!(v7 && (r0_4_4 == 1u))) {
-        goto mmc_host_host_bus_HostBus_send_d568f3fc8d51bff2_exit;
-    }
-    switch (r1_0_0) {
-    default: {
-        goto mmc_host_host_bus_HostBus_send_d568f3fc8d51bff2_exit;
-    }
-    case 1u: {
-        if ((r8_6_2_0 ^ UINT32_C(0x80000000)) > UINT32_C(0x7fffffff)) {
-            common_ret_op = 64000u;
-            goto then_1;
-        }
-        goto mmc_host_host_bus_HostBus_send_d568f3fc8d51bff2_exit;
-    }
-    case 41u: {
-        if (r43 && ((r8_6_2_0 ^ UINT32_C(0x80000000)) > UINT32_C(0x7fffffff))) {
-            common_ret_op = 64000u;
-            goto then_1;
-        }
-        goto mmc_host_host_bus_HostBus_send_d568f3fc8d51bff2_exit;
-    }
-    case 13u: {
-        uint32_t r9 = (uint32_t)(r8_6_2_0 >> 9u) & 15u;
-        if ((r9 == 7u) || (((uint32_t)(r8_6_2_0 & 256u) == 0u) && (r9 == 4u))) {
-            common_ret_op = 32000u;
-            goto then_1;
-        }
-        goto mmc_host_host_bus_HostBus_send_d568f3fc8d51bff2_exit;
-    }
-    }
-}
-then_1: {
-    uint8_t r4_3 = *a1;
-    Stream_pause(a1 + 4, common_ret_op);
-    if (r4_3 == 0u) {
-        goto c_host_way_WayHost_pause_b4302b8119c90b07_exit;
-    }
-    store32_aligned(a1 + 68, common_ret_op);
-}
-c_host_way_WayHost_pause_b4302b8119c90b07_exit: {
-    store32_aligned(a1 + 176, common_ret_op);
-}
-mmc_host_host_bus_HostBus_send_d568f3fc8d51bff2_exit: {
-    *r21 = r1_0_0;
-    memcpy(r21 + 1, r3_2 + 1, 15);
-    *r22 = r0_0_0;
-    r22[1] = r0_2_1;
-    r22[4] = r0_4_4;
-    memcpy(r22 + 5, r3_10, 3);
-    store32_aligned(r22 + 8, r8_6_2_0);
-    store64(r22 + 12, r8_6_3_0);
-    replies_spelled(r0_2, r21, r22);
-    uint8_t v11 = *r0_2;
-    memcpy(r4_5, r0_2 + 1, 17);
-    r4_0_0 = v11;
-    goto mmc_host_host_bus_HostBus_carry_d568f3fc8d51bff2_exit;
-}
-join_9: {
-    a1[180] = 1u;
-    r4_0_0 = 0u;
-}
-mmc_host_host_bus_HostBus_carry_d568f3fc8d51bff2_exit: {
-    memcpy(r11_2 + 1, r3, 6);
-    *r11_2 = 0u;
-    r11_2[7] = a3;
-    r11_2[8] = r4_0_0;
-    memcpy(r11_2 + 9, r4_5, 17);
-    Wire_note(a1 + 88, r11_2);
-    *a0 = r4_0_0;
-    memcpy(a0 + 1, r4_5, 17);
-    return;
-}
-}
-
-/* mmc_frame::command::read_command */
-static void command_read_command(uint8_t *a0, uint8_t *a1)
-{
-    uint8_t r20 = *a1;
-    if (!((uint8_t)(r20 & 192u) == 64u)) {
-        goto join_5;
-    }
-    if ((uint8_t)(a1[5] & 1u) == 0u) {
-        goto join_5;
-    }
-    bool r46 = frame_is_sound_frame(a1);
-    if (!r46) {
-        store32(a0, 0u);
-        goto common_ret;
-    }
-    uint32_t r15 = load32(a1 + 1);
-    store32(a0, 1u);
-    a0[4] = (uint8_t)(r20 & 63u);
-    store32(a0 + 8, bswap32(r15));
-    goto common_ret;
-join_5: {
-    store32(a0, 0u);
-}
-common_ret: {
-    return;
-}
-}
-
-/* mmc_frame::frame::is_sound_frame */
-static bool frame_is_sound_frame(uint8_t *a0)
-{
-    uint8_t r3_05;
-    uint64_t r4_04;
-    r3_05 = 0u;
-    r4_04 = 0u;
-join_6: {
-    uint8_t r18 = *at((uint8_t *)bytes_static_0, (uint64_t)(uint8_t)(*at(a0, r4_04) ^ (uint8_t)((uint32_t)r3_05 << 1u)));
-    uint64_t r28 = r4_04 + 1u;
-    if (r28 != 5u) {
-        r3_05 = r18;
-        r4_04 = r28;
-        goto join_6;
-    }
-    return r18 == (uint8_t)((uint32_t)a0[5] >> 1u);
-}
-}
-
-/* mmc_host::told::HostState::command */
-static void HostState_command(uint8_t *a0, uint8_t *a1, uint8_t a2, uint32_t a3, uint16_t a4)
-{
-    uint8_t r2_0_0_44;
-    uint16_t r2_15_0;
-    uint8_t r2_0_0_10;
-    uint16_t r2_8_7_0;
-    uint16_t r1_22_0 = load16(a1 + 6);
-    bool r7 = (a1[4] & 1u) != 0;
-    switch (a2) {
-    default: {
-        goto after_2;
-    }
-    case 0u: {
-        r2_0_0_44 = 0u;
-        r2_15_0 = 0u; /* any */
-        r2_0_0_10 = 0u;
-        r2_8_7_0 = 0u; /* any */
-        goto mmc_host_data_data_of_exit;
-    }
-    case 1u: {
-        r2_0_0_44 = 4u;
-        r2_15_0 = 0u; /* any */
-        r2_0_0_10 = 0u;
-        r2_8_7_0 = 0u; /* any */
-        goto mmc_host_data_data_of_exit;
-    }
-    case 2u:
-    case 9u: {
-        r2_0_0_44 = 3u;
-        r2_15_0 = 0u; /* any */
-        r2_0_0_10 = 0u;
-        r2_8_7_0 = 0u; /* any */
-        goto mmc_host_data_data_of_exit;
-    }
-    case 3u: {
-        r2_0_0_44 = (uint8_t)((a3 == 0u) ? 5u : 1u);
-        r2_15_0 = 0u; /* any */
-        r2_0_0_10 = 0u;
-        r2_8_7_0 = 0u; /* any */
-        goto mmc_host_data_data_of_exit;
-    }
-    case 6u: {
-        if (r7) {
-            r2_0_0_44 = 1u;
-            r2_15_0 = 0u; /* any */
-            r2_0_0_10 = 0u;
-            r2_8_7_0 = 0u; /* any */
-            goto mmc_host_data_data_of_exit;
-        }
-        if ((a3 & UINT32_C(0x3000000)) == 0u) {
-            r2_0_0_44 = 1u;
-            r2_15_0 = 1u;
-            r2_0_0_10 = 1u;
-            r2_8_7_0 = 64u;
-            goto mmc_host_data_data_of_exit;
-        }
-        r2_0_0_44 = 2u;
-        r2_15_0 = 0u; /* any */
-        r2_0_0_10 = 0u;
-        r2_8_7_0 = 0u; /* any */
-        goto mmc_host_data_data_of_exit;
-    }
-    case 7u:
-    case 12u:
-    case 38u: {
-        r2_0_0_44 = 2u;
-        r2_15_0 = 0u; /* any */
-        r2_0_0_10 = 0u;
-        r2_8_7_0 = 0u; /* any */
-        goto mmc_host_data_data_of_exit;
-    }
-    case 8u: {
-        if (a3 != 0u) {
-            r2_0_0_44 = 6u;
-            r2_15_0 = 0u; /* any */
-            r2_0_0_10 = 0u;
-            r2_8_7_0 = 0u; /* any */
-            goto mmc_host_data_data_of_exit;
-        }
-        r2_0_0_44 = 1u;
-        r2_15_0 = 1u;
-        r2_0_0_10 = 1u;
-        r2_8_7_0 = 512u;
-        goto mmc_host_data_data_of_exit;
-    }
-    case 13u:
-    case 16u:
-    case 23u:
-    case 32u:
-    case 35u:
-    case 33u:
-    case 36u:
-    case 55u: {
-        r2_0_0_44 = 1u;
-        r2_15_0 = 0u; /* any */
-        r2_0_0_10 = 0u;
-        r2_8_7_0 = 0u; /* any */
-        goto mmc_host_data_data_of_exit;
-    }
-    case 17u: {
-        r2_0_0_44 = 1u;
-        r2_15_0 = 1u;
-        r2_0_0_10 = 1u;
-        r2_8_7_0 = 512u;
-        goto mmc_host_data_data_of_exit;
-    }
-    case 18u: {
-        r2_0_0_44 = 1u;
-        r2_15_0 = (uint16_t)((r1_22_0 == 0u) ? a4 : r1_22_0);
-        r2_0_0_10 = 1u;
-        r2_8_7_0 = 512u;
-        goto mmc_host_data_data_of_exit;
-    }
-    case 24u: {
-        r2_0_0_44 = 1u;
-        r2_15_0 = 0u; /* any */
-        r2_0_0_10 = 2u;
-        r2_8_7_0 = 1u;
-        goto mmc_host_data_data_of_exit;
-    }
-    case 25u: {
-        r2_0_0_44 = 1u;
-        r2_15_0 = 0u; /* any */
-        r2_0_0_10 = 2u;
-        r2_8_7_0 = (uint16_t)((r1_22_0 == 0u) ? a4 : r1_22_0);
-        goto mmc_host_data_data_of_exit;
-    }
-    case 41u: {
-        if (r7) {
-            r2_0_0_44 = 4u;
-            r2_15_0 = 0u; /* any */
-            r2_0_0_10 = 0u;
-            r2_8_7_0 = 0u; /* any */
-            goto mmc_host_data_data_of_exit;
-        }
-        goto after_2;
-    }
-    case 51u: {
-        if (r7) {
-            r2_0_0_44 = 1u;
-            r2_15_0 = 1u;
-            r2_0_0_10 = 1u;
-            r2_8_7_0 = 8u;
-            goto mmc_host_data_data_of_exit;
-        }
-        goto after_2;
-    }
-    }
-after_2: {
-    r2_0_0_44 = 1u;
-    r2_15_0 = 0u; /* any */
-    r2_0_0_10 = 0u;
-    r2_8_7_0 = 0u; /* any */
-}
-mmc_host_data_data_of_exit: {
-    *a0 = a2;
-    store32(a0 + 4, a3);
-    a0[8] = r2_0_0_44;
-    store16(a0 + 10, (uint16_t)r2_0_0_10);
-    store16(a0 + 12, r2_8_7_0);
-    store16(a0 + 14, r2_15_0);
-    return;
-}
-}
-
-/* c_host::records::heard_by */
-static void records_heard_by(uint8_t *a0, uint8_t a1, uint8_t *a2)
-{
-    uint8_t r17_7_0_0;
-    uint8_t r17_7_2_0;
-    uint8_t r17_7_3_0;
-    uint32_t r17_7_4_0;
-    uint64_t r17_7_5_0;
-    uint8_t r17_3_0;
-    uint8_t r17_0_0;
-    uint8_t r17_5_0;
-    switch (load32(a2 + 20)) {
-    default: {
-        r17_7_0_0 = 0u; /* any */
-        r17_7_2_0 = 0u; /* any */
-        r17_7_3_0 = 0u; /* any */
-        r17_7_4_0 = 0u; /* any */
-        r17_7_5_0 = 0u; /* any */
-        r17_3_0 = 0u;
-        r17_0_0 = 1u;
-        r17_5_0 = 0u; /* any */
-        goto join_3;
-    }
-    case 0u: {
-        switch (a1) {
-        default: {
-            trap();
-            return;
-        }
-        case 0u: {
-            r17_7_0_0 = 0u; /* any */
-            r17_7_2_0 = 0u; /* any */
-            r17_7_3_0 = 0u; /* any */
-            r17_7_4_0 = 0u; /* any */
-            r17_7_5_0 = 0u; /* any */
-            r17_3_0 = 0u; /* any */
-            r17_0_0 = a1;
-            r17_5_0 = a1;
-            goto join_3;
-        }
-        case 3u: {
-            uint32_t r3_6_3_insert_insert = (((uint32_t)a2[7] << 8u) | (uint32_t)*a2) | ((uint32_t)a2[6] << 16u);
-            uint64_t r3_15_7_insert_insert = (((uint64_t)a2[11] << 8u) | (uint64_t)a2[4]) | ((uint64_t)a2[10] << 16u);
-            uint64_t r3_11_7_insert_mask = ((r3_15_7_insert_insert | ((uint64_t)a2[9] << 24u)) | ((uint64_t)a2[8] << 32u)) | ((uint64_t)a2[15] << 40u);
-            r17_7_0_0 = a2[3];
-            r17_7_2_0 = a2[2];
-            r17_7_3_0 = a2[1];
-            r17_7_4_0 = r3_6_3_insert_insert | ((uint32_t)a2[5] << 24u);
-            r17_7_5_0 = (r3_11_7_insert_mask | ((uint64_t)a2[14] << 48u)) | ((uint64_t)a2[13] << 56u);
-            r17_3_0 = 0u; /* any */
-            r17_0_0 = 0u;
-            r17_5_0 = 2u;
-            goto join_3;
-        }
-        case 1u:
-        case 2u:
-        case 4u:
-        case 5u:
-        case 6u: {
-            r17_7_0_0 = 0u; /* any */
-            r17_7_2_0 = 0u; /* any */
-            r17_7_3_0 = 0u; /* any */
-            r17_7_4_0 = load32(a2);
-            r17_7_5_0 = 0u; /* any */
-            r17_3_0 = 0u; /* any */
-            r17_0_0 = 0u;
-            r17_5_0 = 1u;
-            goto join_3;
-        }
-        }
-    }
-    case 2u: {
-        r17_7_0_0 = 0u; /* any */
-        r17_7_2_0 = 0u; /* any */
-        r17_7_3_0 = 0u; /* any */
-        r17_7_4_0 = 0u; /* any */
-        r17_7_5_0 = 0u; /* any */
-        r17_3_0 = 1u;
-        r17_0_0 = 1u;
-        r17_5_0 = 0u; /* any */
-        goto join_3;
-    }
-    case 3u: {
-        r17_7_0_0 = 0u; /* any */
-        r17_7_2_0 = 0u; /* any */
-        r17_7_3_0 = 0u; /* any */
-        r17_7_4_0 = 0u; /* any */
-        r17_7_5_0 = 0u; /* any */
-        r17_3_0 = 2u;
-        r17_0_0 = 1u;
-        r17_5_0 = 0u; /* any */
-        goto join_3;
-    }
-    case 4u: {
-        r17_7_0_0 = 0u; /* any */
-        r17_7_2_0 = 0u; /* any */
-        r17_7_3_0 = 0u; /* any */
-        r17_7_4_0 = 0u; /* any */
-        r17_7_5_0 = 0u; /* any */
-        r17_3_0 = 3u;
-        r17_0_0 = 1u;
-        r17_5_0 = 0u; /* any */
-        goto join_3;
-    }
-    }
-join_3: {
-    *a0 = r17_0_0;
-    a0[1] = r17_3_0;
-    a0[4] = r17_5_0;
-    a0[5] = r17_7_0_0;
-    a0[6] = r17_7_2_0;
-    a0[7] = r17_7_3_0;
-    store32(a0 + 8, r17_7_4_0);
-    store64(a0 + 12, r17_7_5_0);
-    return;
-}
-}
-
-/* mmc_sdhci::sdhci::SdhciHost::send::<#d002fd087b3dc1c2> */
-static void SdhciHost_send(uint8_t *a0, uint8_t *a1, uint8_t *a2)
-{
-    KELIFANDRO_ROOM uint8_t room[36];
-    uint8_t *const r5 = room;
-    uint8_t *const r7 = room;
-    KELIFANDRO_ROOM uint8_t r8[36];
-    KELIFANDRO_ROOM uint8_t r3[20];
-    KELIFANDRO_ROOM uint8_t r1[16];
-    memcpy(r1, a2, 16);
-    store16_aligned(r5, (uint16_t)a1[40]);
-    store16_aligned(r5 + 2, load16(a1 + 42));
-    store16_aligned(r5 + 4, load16(a1 + 44));
-    command_send(r3, a1, r5, r1, 0u);
-    uint8_t v2 = *r3;
-    uint8_t v3 = r3[1];
-    uint8_t v4 = r3[4];
-    memcpy(r8, a1 + 32, 36);
-    HostState_sent(r7, r8, r1, v2 == 0u);
-    memcpy(a1 + 32, r7, 36);
-    *a0 = v2;
-    a0[1] = v3;
-    a0[4] = v4;
-    memcpy(a0 + 5, r3 + 5, 15);
-    return;
-}
-
-/* mmc_sdhci::command::send::<#d002fd087b3dc1c2> */
-static void command_send(uint8_t *a0, uint8_t *a1, uint8_t *a2, uint8_t *a3, uint8_t a4)
-{
-    uint8_t r8_0_0;
-    uint8_t r8_3_0;
-    uint8_t r8_539_0;
-    bool not;
-    uint32_t r10_0;
-    uint32_t r59;
-    uint32_t r1_08;
-    uint32_t r2_8_5_0;
-    uint32_t r2_8_4_0;
-    uint32_t r2_8_3_0;
-    uint32_t r2_8_0_0;
-    uint8_t r2_20_0;
-    uint8_t r2_19_0;
-    uint8_t r2_18_0;
-    uint8_t r2_17_0;
-    uint8_t r2_16_0;
-    uint8_t r2_15_0;
-    uint8_t r2_14_0;
-    uint8_t r2_13_0;
-    uint8_t r2_7_0;
-    uint8_t r2_6_0;
-    uint8_t r2_4_0;
-    uint8_t r2_0_0;
-    uint32_t common_ret_op_70;
-    uint8_t r4_0_0;
-    uint64_t sink;
-    uint8_t r2_20_0_sink;
-    r8_0_0 = *a3;
-    uint32_t r8_238_0 = load32(a3 + 4);
-    r8_3_0 = a3[8];
-    r8_539_0 = a3[10];
-    uint16_t r8_640_0 = load16(a3 + 12);
-    uint16_t r8_7_0 = load16(a3 + 14);
-    not = *a2 == 0u;
-    Stream_write_register(a1, 4u, 48u, not ? UINT32_C(0xffffffff) : UINT32_C(0xf0001));
-    switch (r8_539_0) {
-    default: {
-        trap();
-        return;
-    }
-    case 0u: {
-        Stream_write_register(a1, 4u, 8u, r8_238_0);
-        r10_0 = 0u;
-        goto switch_lookup;
-    }
-    case 2u: {
-        Stream_write_register(a1, 4u, 4u, (uint32_t)((uint32_t)r8_640_0 << 16u) | 29184u);
-        Stream_write_register(a1, 4u, 8u, r8_238_0);
-        r10_0 = (r8_640_0 == 1u) ? 0u : 34u;
-        goto switch_lookup;
-    }
-    case 1u: {
-        Stream_write_register(a1, 4u, 4u, (uint32_t)((uint32_t)r8_640_0 + 28672u) + ((uint32_t)r8_7_0 << 16u));
-        Stream_write_register(a1, 4u, 8u, r8_238_0);
-        r10_0 = (r8_7_0 == 1u) ? 16u : 50u;
-        goto switch_lookup;
-    }
-    }
-switch_lookup: {
-    uint32_t r56 = (r10_0 | (uint32_t)a4) | (((r8_539_0 == 0u) ? 0u : UINT32_C(0x200000)) | ((uint32_t)((uint32_t)r8_0_0 << 24u) | ((r8_0_0 == 12u) ? UINT32_C(0xc00000) : 0u)));
-    r59 = r56 + load32_aligned(at((uint8_t *)bytes_command_send, (uint64_t)r8_3_0 * 4u));
-    switch ((uint8_t)((uint8_t)(r59 >> 24u) & 63u)) {
-    default: {
-        goto after_1;
-    }
-    case 1u: {
-        if ((a1[21] & 1u) != 0) {
-            goto after_1;
-        }
-        goto join_5_preheader;
-    }
-    case 41u: {
-        if ((a1[20] & 1u) != 0) {
-            goto after_1;
-        }
-        goto join_5_preheader;
-    }
-    }
-}
-after_1: {
-    Stream_write_register(a1, 4u, 12u, r59);
-}
-join_5_preheader: {
-    r1_08 = 0u;
-}
-join_5: {
-    uint32_t r6_7 = Stream_read_register(a1, 4u, 48u);
-    switch (r6_7 & UINT32_C(0xf0001)) {
-    default: {
-        common_ret_op_70 = r6_7;
-        goto join_5_2;
-    }
-    case 0u: {
-        Stream_pause(a1, 10u);
-        uint32_t r41 = r1_08 + 1u;
-        if (r41 == 1000u) {
-            common_ret_op_70 = 0u;
-            goto join_5_2;
-        }
-        r1_08 = r41;
-        goto join_5;
-    }
-    case 1u: {
-        switch (r8_3_0) {
-        default: {
-            trap();
-            return;
-        }
-        case 0u: {
-            r2_8_5_0 = 0u;
-            r2_8_4_0 = 0u;
-            r2_8_3_0 = 0u;
-            r2_8_0_0 = 0u;
-            r2_20_0 = 0u; /* any */
-            r2_19_0 = 0u; /* any */
-            r2_18_0 = 0u; /* any */
-            r2_17_0 = 0u; /* any */
-            r2_16_0 = 0u; /* any */
-            r2_15_0 = 0u; /* any */
-            r2_14_0 = 0u; /* any */
-            r2_13_0 = 0u; /* any */
-            r2_7_0 = 0u; /* any */
-            r2_6_0 = 0u; /* any */
-            r2_4_0 = 0u; /* any */
-            r2_0_0 = r8_3_0;
-            goto mmc_sdhci_command_hear_d002fd087b3dc1c2_exit;
-        }
-        case 3u: {
-            uint32_t r6 = Stream_read_register(a1, 4u, 28u);
-            uint32_t r6_4 = Stream_read_register(a1, 4u, 24u);
-            uint32_t r6_5 = Stream_read_register(a1, 4u, 20u);
-            uint32_t r6_6 = Stream_read_register(a1, 4u, 16u);
-            r2_8_5_0 = r6_4 & 255u;
-            r2_8_4_0 = r6_4 >> 8u;
-            r2_8_3_0 = r6_4 >> 16u;
-            r2_8_0_0 = r6_4 >> 24u;
-            r2_20_0 = (uint8_t)r6_6;
-            r2_19_0 = (uint8_t)(r6_6 >> 8u);
-            r2_18_0 = (uint8_t)(r6_6 >> 16u);
-            r2_17_0 = (uint8_t)(r6_6 >> 24u);
-            r2_16_0 = (uint8_t)r6_5;
-            r2_15_0 = (uint8_t)(r6_5 >> 8u);
-            r2_14_0 = (uint8_t)(r6_5 >> 16u);
-            r2_13_0 = (uint8_t)(r6_5 >> 24u);
-            r2_7_0 = (uint8_t)r6;
-            r2_6_0 = (uint8_t)(r6 >> 8u);
-            r2_4_0 = (uint8_t)(r6 >> 16u);
-            r2_0_0 = 2u;
-            goto mmc_sdhci_command_hear_d002fd087b3dc1c2_exit;
-        }
-        case 1u:
-        case 2u:
-        case 4u:
-        case 5u:
-        case 6u: {
-            uint32_t r6_2 = Stream_read_register(a1, 4u, 16u);
-            r2_8_5_0 = r6_2 >> 24u;
-            r2_8_4_0 = r6_2 >> 16u;
-            r2_8_3_0 = r6_2 >> 8u;
-            r2_8_0_0 = r6_2 & 255u;
-            r2_20_0 = 0u; /* any */
-            r2_19_0 = 0u; /* any */
-            r2_18_0 = 0u; /* any */
-            r2_17_0 = 0u; /* any */
-            r2_16_0 = 0u; /* any */
-            r2_15_0 = 0u; /* any */
-            r2_14_0 = 0u; /* any */
-            r2_13_0 = 0u; /* any */
-            r2_7_0 = 0u; /* any */
-            r2_6_0 = 0u; /* any */
-            r2_4_0 = 0u; /* any */
-            r2_0_0 = 1u;
-            goto mmc_sdhci_command_hear_d002fd087b3dc1c2_exit;
-        }
-        }
-    }
-    }
-}
-mmc_sdhci_command_hear_d002fd087b3dc1c2_exit: {
-    uint32_t r2_8_0_0_insert_insert = ((((r2_8_4_0 << 16u) & UINT32_C(0xff0000)) | (r2_8_5_0 << 24u)) | ((uint32_t)(r2_8_3_0 << 8u) & 65280u)) | r2_8_0_0;
-    if (not) {
-        *a0 = 0u;
-        a0[4] = r2_0_0;
-        a0[5] = r2_4_0;
-        a0[6] = r2_6_0;
-        a0[7] = r2_7_0;
-        store32(a0 + 8, r2_8_0_0_insert_insert);
-        a0[12] = r2_13_0;
-        a0[13] = r2_14_0;
-        a0[14] = r2_15_0;
-        a0[15] = r2_16_0;
-        a0[16] = r2_17_0;
-        a0[17] = r2_18_0;
-        a0[18] = r2_19_0;
-        sink = 19u;
-        r2_20_0_sink = r2_20_0;
-        goto common_ret;
-    }
-    command_reset_data(a1);
-    *a0 = 0u;
-    a0[4] = r2_0_0;
-    a0[5] = r2_4_0;
-    a0[6] = r2_6_0;
-    a0[7] = r2_7_0;
-    store32(a0 + 8, r2_8_0_0_insert_insert);
-    a0[12] = r2_13_0;
-    a0[13] = r2_14_0;
-    a0[14] = r2_15_0;
-    a0[15] = r2_16_0;
-    a0[16] = r2_17_0;
-    a0[17] = r2_18_0;
-    a0[18] = r2_19_0;
-    sink = 19u;
-    r2_20_0_sink = r2_20_0;
-    goto common_ret;
-}
-join_5_2: {
-    command_reset_command(a1);
-    command_reset_data(a1);
-    if (!((common_ret_op_70 & UINT32_C(0x20000)) == 0u)) {
-        r4_0_0 = 1u;
-        goto mmc_sdhci_command_fault_in_exit;
-    }
-    r4_0_0 = (uint8_t)(((common_ret_op_70 & UINT32_C(0x40000)) == 0u) ? (uint8_t)(((common_ret_op_70 & UINT32_C(0x80000)) == 0u) ? 0u : 3u) : 2u);
-}
-mmc_sdhci_command_fault_in_exit: {
-    *a0 = 1u;
-    sink = 1u;
-    r2_20_0_sink = r4_0_0;
-}
-common_ret: {
-    *at(a0, sink) = r2_20_0_sink;
-    return;
-}
-}
-
-/* mmc_sdhci::command::reset_command::<#d002fd087b3dc1c2> */
-static void command_reset_command(uint8_t *a0)
-{
-    StoryRegistersRegisters_write8(a0, 47u, 2u);
-    settling_settle_reset(a0);
-    return;
-}
-
-/* mmc_sdhci::settling::settle_reset::<#d002fd087b3dc1c2> */
-static void settling_settle_reset(uint8_t *a0)
-{
-    uint32_t r0_03;
-    r0_03 = 0u;
-join_5: {
-    uint8_t r13 = StoryRegistersRegisters_read8(a0, 47u);
-    if (r13 == 0u) {
-        goto common_ret;
-    }
-    Stream_pause(a0, 100u);
-    uint32_t r21 = r0_03 + 1u;
-    if (r21 != 1000u) {
-        r0_03 = r21;
-        goto join_5;
-    }
-    StoryRegistersRegisters_read8(a0, 47u);
-}
-common_ret: {
-    return;
-}
-}
-
-/* mmc_sdhci::command::reset_data::<#d002fd087b3dc1c2> */
-static void command_reset_data(uint8_t *a0)
-{
-    StoryRegistersRegisters_write8(a0, 47u, 4u);
-    settling_settle_reset(a0);
-    return;
-}
-
-/* mmc_host::told::HostState::sent */
-static void HostState_sent(uint8_t *a0, uint8_t *a1, uint8_t *a2, bool a3)
-{
-    uint32_t r1_419_0;
-    uint32_t r1_5_0;
-    uint8_t r2_0_0;
-    uint32_t r2_314_0;
-    uint8_t r2_416_0;
-    uint16_t r2_5_2_0;
-    uint16_t v1;
-    bool r8_0_in47;
-    uint32_t r4_6_5_0_38;
-    uint8_t r4_0_0_36;
-    bool r8_0_in46;
-    uint32_t r4_6_5_0_37;
-    uint8_t r4_0_0_35;
-    uint32_t r31_0;
-    uint32_t r34_0;
-    uint8_t r1_4_2_0 = a1[16];
-    uint32_t r1_4_4_0 = load32(a1 + 20);
-    r1_419_0 = load32(a1 + 24);
-    r1_5_0 = load32(a1 + 28);
-    r2_0_0 = *a2;
-    r2_314_0 = load32(a2 + 4);
-    uint16_t v0 = load16(a2 + 8);
-    r2_416_0 = a2[10];
-    r2_5_2_0 = load16(a2 + 12);
-    v1 = load16(a2 + 14);
-    if (r2_0_0 == 0u) {
-        r8_0_in47 = true;
-        r4_6_5_0_38 = r1_4_4_0;
-        r4_0_0_36 = r1_4_2_0;
-        goto default_25;
-    }
-    bool r8_0_in = ((a3 && (r2_0_0 == 7u)) != true) && ((a1[3] & 1u) != 0);
-    switch (r2_0_0) {
-    default: {
-        bool or_cond = (uint8_t)(r2_0_0 & 254u) == 24u;
-        uint8_t spec_select57 = (uint8_t)(or_cond ? 1u : r1_4_2_0);
-        uint32_t spec_select58 = or_cond ? 0u : r1_4_4_0;
-        switch (r2_0_0) {
-        default: {
-            r8_0_in47 = r8_0_in;
-            r4_6_5_0_38 = spec_select58;
-            r4_0_0_36 = spec_select57;
-            goto default_25;
-        }
-        case 32u:
-        case 35u: {
-            r8_0_in46 = r8_0_in;
-            r4_6_5_0_37 = spec_select58;
-            r4_0_0_35 = spec_select57;
-            r31_0 = r2_314_0;
-            goto join_26;
-        }
-        }
-    }
-    case 7u: {
-        r8_0_in47 = r8_0_in;
-        r4_6_5_0_38 = 0u; /* any */
-        r4_0_0_36 = 0u;
-        goto default_25;
-    }
-    case 12u: {
-        r8_0_in47 = r8_0_in;
-        r4_6_5_0_38 = 0u; /* any */
-        r4_0_0_36 = 1u;
-        goto default_25;
-    }
-    case 6u: {
-        bool r13_not = (uint8_t)v0 == 2u;
-        r8_0_in47 = r8_0_in;
-        r4_6_5_0_38 = r13_not ? 0u : r1_4_4_0;
-        r4_0_0_36 = (uint8_t)(r13_not ? 2u : r1_4_2_0);
-        goto default_25;
-    }
-    case 38u: {
-        r8_0_in47 = r8_0_in;
-        r4_6_5_0_38 = usub_sat32(r1_5_0, r1_419_0);
-        r4_0_0_36 = 3u;
-        goto default_25;
-    }
-    }
-default_25: {
-    r8_0_in46 = r8_0_in47;
-    r4_6_5_0_37 = r4_6_5_0_38;
-    r4_0_0_35 = r4_0_0_36;
-    r31_0 = r1_419_0;
-}
-join_26: {
-    switch (r2_0_0) {
-    default: {
-        r34_0 = r1_5_0;
-        goto join_29;
-    }
-    case 33u:
-    case 36u: {
-        r34_0 = r2_314_0;
-        goto join_29;
-    }
-    }
-}
-join_29: {
-    {
-        uint8_t moved[3];
-        memcpy(moved, a1, 3);
-        memcpy(a0, moved, 3);
-    }
-    a0[3] = (uint8_t)r8_0_in46;
-    a0[4] = (uint8_t)(a3 && (r2_0_0 == 55u));
-    store16(a0 + 6, (uint16_t)((a3 && (r2_0_0 == 23u)) ? (uint16_t)r2_314_0 : 0u));
-    store16(a0 + 8, (uint16_t)(a3 ? (uint16_t)r2_416_0 : 0u));
-    store16(a0 + 10, (uint16_t)(a3 ? r2_5_2_0 : 0u));
-    store16(a0 + 12, (uint16_t)(a3 ? v1 : 0u));
-    store32(a0 + 16, (uint32_t)r4_0_0_35);
-    store32(a0 + 20, r4_6_5_0_37);
-    store32(a0 + 24, r31_0);
-    store32(a0 + 28, r34_0);
-    store32(a0 + 32, 0u);
-    return;
-}
-}
-
-/* mmc_host::replies::spelled */
-static void replies_spelled(uint8_t *a0, uint8_t *a1, uint8_t *a2)
-{
-    KELIFANDRO_ROOM uint8_t room[15];
-    uint8_t *const r0 = room;
-    uint8_t *const r10 = room;
-    KELIFANDRO_ROOM uint8_t r15_5_6_0[10];
-    uint32_t r2_7_5;
-    uint8_t r3_05;
-    uint64_t r4_04;
-    uint8_t r15_5_6_2_0;
-    uint8_t r15_5_5_0;
-    uint32_t r15_5_4_0;
-    uint8_t r15_5_0_0;
-    uint8_t r15_0_0;
-    uint8_t r1_0_0 = *a1;
-    uint8_t r2_3_4 = a2[4];
-    r2_7_5 = load32(a2 + 8);
-    uint64_t r2_8_5 = load64(a2 + 12);
-    if (*a2 != 0u) {
-        *a0 = 0u;
-        goto common_ret;
-    }
-    uint8_t r1_25_0 = a1[8];
-    switch (r1_25_0) {
-    default: {
-        trap();
-        return;
-    }
-    case 3u: {
-        if (r2_3_4 != 2u) {
-            r15_5_6_2_0 = 0u; /* any */
-            r15_5_5_0 = 0u; /* any */
-            r15_5_4_0 = 0u; /* any */
-            r15_5_0_0 = 0u; /* any */
-            r15_0_0 = 0u;
-            goto after_5;
-        }
-        memcpy(r10, a2 + 5, 3);
-        store32(r10 + 3, r2_7_5);
-        store64(r10 + 7, r2_8_5);
-        r3_05 = 0u;
-        r4_04 = 0u;
-        goto join_6;
-    }
-    case 4u: {
-        if (r2_3_4 != 1u) {
-            r15_5_6_2_0 = 0u; /* any */
-            r15_5_5_0 = 0u; /* any */
-            r15_5_4_0 = 0u; /* any */
-            r15_5_0_0 = 0u; /* any */
-            r15_0_0 = 0u;
-            goto after_5;
-        }
-        r15_5_6_2_0 = 0u; /* any */
-        r15_5_5_0 = 255u;
-        r15_5_4_0 = bswap32(r2_7_5);
-        r15_5_0_0 = 63u;
-        r15_0_0 = 1u;
-        goto after_5;
-    }
-    case 1u:
-    case 2u:
-    case 5u:
-    case 6u: {
-        if (r2_3_4 != 1u) {
-            r15_5_6_2_0 = 0u; /* any */
-            r15_5_5_0 = 0u; /* any */
-            r15_5_4_0 = 0u; /* any */
-            r15_5_0_0 = 0u; /* any */
-            r15_0_0 = 0u;
-            goto after_5;
-        }
-        frame_framed(r0, r1_0_0, r2_7_5);
-        uint8_t r22_0_0 = *r0;
-        uint32_t r22_2_0 = load32(r0 + 1);
-        uint8_t r22_3_0 = r0[5];
-        r15_5_6_2_0 = 0u; /* any */
-        r15_5_5_0 = r22_3_0;
-        r15_5_4_0 = r22_2_0;
-        r15_5_0_0 = r22_0_0;
-        r15_0_0 = 1u;
-        goto after_5;
-    }
-    case 0u: {
-        r15_5_6_2_0 = 0u; /* any */
-        r15_5_5_0 = 0u; /* any */
-        r15_5_4_0 = 0u; /* any */
-        r15_5_0_0 = 0u; /* any */
-        r15_0_0 = r1_25_0;
-        goto after_5;
-    }
-    }
-join_6: {
-    uint8_t r18 = *at((uint8_t *)bytes_static_0, (uint64_t)(uint8_t)(*at(r10, r4_04) ^ (uint8_t)((uint32_t)r3_05 << 1u)));
-    uint64_t r28 = r4_04 + 1u;
-    if (r28 != 15u) {
-        r3_05 = r18;
-        r4_04 = r28;
-        goto join_6;
-    }
-    uint32_t r1_0_0_2 = load32_aligned(r10);
-    memcpy(r15_5_6_0, r10 + 5, 10);
-    r15_5_6_2_0 = (uint8_t)((uint8_t)((uint32_t)r18 << 1u) | 1u);
-    r15_5_5_0 = (uint8_t)(r2_7_5 >> 8u);
-    r15_5_4_0 = r1_0_0_2;
-    r15_5_0_0 = 63u;
-    r15_0_0 = 2u;
-}
-after_5: {
-    *a0 = r15_0_0;
-    a0[1] = r15_5_0_0;
-    store32(a0 + 2, r15_5_4_0);
-    a0[6] = r15_5_5_0;
-    memcpy(a0 + 7, r15_5_6_0, 10);
-    a0[17] = r15_5_6_2_0;
-}
-common_ret: {
-    return;
-}
-}
-
-/* mmc_bus::wire::Wire::note */
-static void Wire_note(uint8_t *a0, uint8_t *a1)
-{
-    KELIFANDRO_ROOM uint8_t r7_8[18];
-    KELIFANDRO_ROOM uint8_t r7_4[6];
-    uint8_t r0_0_0 = *a1;
-    uint8_t r0_4_7 = a1[7];
-    memcpy(r7_4, a1 + 1, 6);
-    memcpy(r7_8, a1 + 8, 18);
-    store64(a0 + 8, 1u);
-    a0[16] = r0_0_0;
-    memcpy(a0 + 17, r7_4, 6);
-    a0[23] = r0_4_7;
-    memcpy(a0 + 24, r7_8, 18);
-    store64_aligned(a0 + 48, uadd_sat64(load64_aligned(a0 + 48), 1u));
-    return;
-}
-
-/* mmc_bus::host::response_in */
-static void host_response_in(uint8_t *a0, uint8_t *a1, uint8_t a2)
-{
-    uint32_t r2_8_0;
-    uint8_t r2_4_0;
-    uint8_t r2_0_0;
-    uint8_t r7 = *a1;
-    switch (r7) {
-    default: {
-        trap();
-        return;
-    }
-    case 0u: {
-        r2_8_0 = 0u; /* any */
-        r2_4_0 = r7;
-        r2_0_0 = 1u;
-        goto join_5;
-    }
-    case 1u: {
-        uint8_t r22 = a1[1];
-        if (!(r22 < 64u)) {
-            r2_8_0 = 0u; /* any */
-            r2_4_0 = 1u;
-            r2_0_0 = 1u;
-            goto join_5;
-        }
-        if ((uint8_t)(a1[6] & 1u) == 0u) {
-            r2_8_0 = 0u; /* any */
-            r2_4_0 = 1u;
-            r2_0_0 = 1u;
-            goto join_5;
-        }
-        bool r49 = frame_is_sound_frame(a1 + 1);
-        if (!((r22 == a2) && r49)) {
-            r2_8_0 = 0u; /* any */
-            r2_4_0 = 1u;
-            r2_0_0 = 1u;
-            goto join_5;
-        }
-        r2_8_0 = bswap32(load32(a1 + 2));
-        r2_4_0 = 1u;
-        r2_0_0 = 0u;
-        goto join_5;
-    }
-    case 2u: {
-        r2_8_0 = 0u; /* any */
-        r2_4_0 = 1u;
-        r2_0_0 = 1u;
-        goto join_5;
-    }
-    }
-join_5: {
-    *a0 = r2_0_0;
-    a0[1] = r2_4_0;
-    store32(a0 + 4, r2_8_0);
-    return;
-}
-}
-
-/* mmc_bus::wait::count_polls::<#1bed76fd314cf36e> */
-static void wait_count_polls(uint8_t *a0, uint8_t *a1)
-{
-    uint64_t r1_08;
-    r1_08 = 0u;
-join_5: {
-    bool r12 = host_poll(a1);
-    if (!r12) {
-        *a0 = 0u;
-        a0[1] = 3u;
-        store64(a0 + 8, r1_08);
-        goto common_ret;
-    }
-    uint64_t r27 = r1_08 + 1u;
-    if (r27 != 16u) {
-        r1_08 = r27;
-        goto join_5;
-    }
-    *a0 = 1u;
-    a0[1] = 3u;
-}
-common_ret: {
-    return;
-}
-}
-
-/* mmc_bus::host::poll::<#1bed76fd314cf36e> */
-static bool host_poll(uint8_t *a0)
-{
-    KELIFANDRO_ROOM uint8_t room[32];
-    uint8_t *const r17 = room;
-    uint8_t *const r4 = room;
-    uint8_t *const r5 = room + 8;
-    bool v0;
-    uint32_t r5_0;
-    uint32_t r10;
-    uint32_t r0_05;
-    bool r6_0_in;
-    v0 = *a0 == 0u;
-    switch (a0[160]) {
-    default: {
-        trap();
-        return 0;
-    }
-    case 0u:
-    case 1u: {
-        r5_0 = 32000u;
-        goto mmc_host_work_Work_micros_exit;
-    }
-    case 2u: {
-        r5_0 = UINT32_C(0x27100);
-        goto mmc_host_work_Work_micros_exit;
-    }
-    case 3u: {
-        r5_0 = (uint32_t)umin64((uint64_t)load32(a0 + 164) * 16000u, UINT64_C(0x350c1400)) + UINT32_C(0x98d500);
-        goto mmc_host_work_Work_micros_exit;
-    }
-    }
-mmc_host_work_Work_micros_exit: {
-    if (!v0) {
-        r10 = r5_0 / 10u;
-        r0_05 = 0u;
-        goto join_5;
-    }
-    store32_aligned(r5, 0u);
-    *r17 = 4u;
-    store32(r17 + 1, r5_0);
-    Stream_ask(a0 + 4, r17, 5u, r5, 4u);
-    uint32_t v4 = load32_aligned(r5);
-    r6_0_in = v4 != 0u;
-    goto mmc_host_host_bus_HostBusBus_busy_d568f3fc8d51bff2_exit;
-}
-join_5: {
-    uint32_t r6 = CRegistersRegisters_read32(a0 + 4, 36u);
-    if (!((r6 & UINT32_C(0x100000)) == 0u)) {
-        goto mmc_sdhci_sdhci_SdhciHost_is_busy_d002fd087b3dc1c2_exit;
-    }
-    Stream_pause(a0 + 4, 10u);
-    uint32_t r30 = r0_05 + 1u;
-    if (r30 != r10) {
-        r0_05 = r30;
-        goto join_5;
-    }
-    Stream_pause(a0 + 4, (r10 * UINT32_C(0xfffffff6)) + r5_0);
-}
-mmc_sdhci_sdhci_SdhciHost_is_busy_d002fd087b3dc1c2_exit: {
-    uint8_t r8 = StoryRegistersRegisters_read8(a0 + 4, 38u);
-    r6_0_in = (uint8_t)(r8 & 16u) == 0u;
-}
-mmc_host_host_bus_HostBusBus_busy_d568f3fc8d51bff2_exit: {
-    *r4 = 3u;
-    r4[1] = (uint8_t)r6_0_in;
-    Wire_note(a0 + 88, r4);
-    return r6_0_in;
-}
-}
-
-/* mmc_bus::status::confirm::<#1bed76fd314cf36e> */
-static struct of_i8_i8 status_confirm(uint8_t *a0, uint8_t a1, uint16_t a2)
-{
-    struct of_i8_i8 r13 = status_ask_closing(a0, a1, a2);
-    uint8_t r22 = r13.f1;
-    bool v0 = r13.f0 == 0u;
-    uint8_t spec_select = (uint8_t)(v0 ? r22 : 1u);
-    uint8_t spec_select3 = (uint8_t)(v0 ? 2u : r22);
-    struct of_i8_i8 r37_fca_0_insert = (struct of_i8_i8){spec_select, 0};
-    struct of_i8_i8 r37_fca_1_insert = (struct of_i8_i8){r37_fca_0_insert.f0, spec_select3};
-    return r37_fca_1_insert;
-}
-
-/* mmc_bus::status::ask_closing::<#1bed76fd314cf36e> */
-static struct of_i8_i8 status_ask_closing(uint8_t *a0, uint8_t a1, uint16_t a2)
-{
-    KELIFANDRO_ROOM uint8_t r2[8];
-    host_ask(r2, a0, 13u, (uint32_t)a2 << 16u);
-    struct of_i8_i8 r9 = status_check_closing(a1, r2);
-    return r9;
-}
-
-/* mmc_bus::status::check_closing */
-static struct of_i8_i8 status_check_closing(uint8_t a0, uint8_t *a1)
-{
-    uint8_t r0_0_0;
-    uint8_t r0_3_0;
-    if (*a1 != 0u) {
-        r0_0_0 = 1u;
-        r0_3_0 = 0u;
-        goto return_5;
-    }
-    uint32_t r2_4_4 = load32(a1 + 4);
-    bool r12 = (r2_4_4 & ((a0 == 0u) ? UINT32_C(0xfd39a000) : UINT32_C(0xfd39a080))) == 0u;
-    if (((uint32_t)(r2_4_4 & 7936u) == 2304u) && r12) {
-        r0_0_0 = 0u;
-        r0_3_0 = 0u;
-        goto return_5;
-    }
-    uint32_t r18 = (uint32_t)(r2_4_4 >> 9u) & 15u;
-    if (!(r12 && ((r18 + UINT32_C(0xfffffffd)) < 5u))) {
-        r0_0_0 = 1u;
-        r0_3_0 = 2u;
-        goto return_5;
-    }
-    bool cond_fr = ((uint32_t)(r2_4_4 & 256u) == 0u) || (r18 != 4u);
-    r0_0_0 = (uint8_t)(cond_fr != true);
-    r0_3_0 = (uint8_t)(cond_fr ? 1u : 2u);
-return_5: {
-    struct of_i8_i8 r66_fca_0_insert = (struct of_i8_i8){r0_0_0, 0};
-    struct of_i8_i8 r66_fca_1_insert = (struct of_i8_i8){r66_fca_0_insert.f0, r0_3_0};
-    return r66_fca_1_insert;
-}
-}
-
 /* mmc_recovery::reopening::reset::<#1bed76fd314cf36e> */
 static void reopening_reset(uint8_t *a0, uint8_t *a1, uint8_t *a2)
 {
@@ -5263,1536 +7416,6 @@ common_ret: {
     a0[176] = 4u;
     a0[177] = 1u;
     return;
-}
-}
-
-/* mmc_switch::initialization::initialize::<#1bed76fd314cf36e> */
-static void initialization_initialize(uint8_t *a0, uint8_t *a1)
-{
-    KELIFANDRO_ROOM uint8_t room[512];
-    uint8_t *const r0_4 = room;
-    uint8_t *const r2_3_2 = room;
-    uint8_t *const r7_3 = room;
-    uint8_t *const r7_1 = room;
-    uint8_t *const r7_3_2 = room;
-    uint8_t *const r2_4 = room;
-    uint8_t *const r2_3 = room;
-    uint8_t *const r7_2 = room;
-    uint8_t *const r2_2 = room;
-    uint8_t *const r1_28 = room + 32;
-    KELIFANDRO_ROOM uint8_t r5[80];
-    KELIFANDRO_ROOM uint8_t r2[64];
-    uint8_t r16;
-    bool v1;
-    uint8_t r4_6_pre;
-    uint8_t r0_0_0;
-    uint8_t r14_8_0_16_0;
-    uint8_t r14_8_6_0;
-    uint8_t v39;
-    uint64_t v41;
-    bool v43;
-    uint64_t v50;
-    uint64_t v52;
-    uint64_t v59;
-    uint64_t v66;
-    uint64_t v73;
-    bool v74;
-    uint8_t v76;
-    uint64_t v78;
-    uint16_t r80;
-    uint8_t r21;
-    uint64_t v;
-    uint64_t r1_0;
-    uint64_t a0_14;
-    uint64_t pre;
-    uint64_t a0_17_297;
-    uint64_t a0_11_283288296;
-    uint64_t a0_14_289295;
-    uint64_t common_ret_op;
-    uint8_t r1_8_2_ph;
-    uint16_t r24;
-    u128 r4_0;
-    bool r2_0_in;
-    uint64_t r130;
-    uint8_t r0_3_0_ph;
-    uint8_t r0_3_0_ph_2;
-    uint8_t r3_3_0_62_ph;
-    uint8_t r3_3_0_62;
-    uint8_t r3;
-    uint64_t r1_3_2_0;
-    uint8_t *sink80_phi;
-    uint8_t *r1_28_sink;
-    uint8_t r1_14_0_57;
-    uint16_t r1_22_0_56;
-    uint8_t r1_26_0_55_in;
-    uint64_t r1_30_0_54;
-    u128 r1_38_0_53_in_in_in;
-    uint64_t r1_4021_0_52;
-    uint8_t r1_42_0_51;
-    uint8_t r1_44_0_50;
-    uint8_t r1_51_0_49;
-    uint8_t r1_53_0_48;
-    uint64_t r1_37_0_47;
-    uint64_t r1_36_0_46;
-    uint64_t r1_35_0_45;
-    uint64_t r1_34_0_44;
-    uint64_t r1_32_0_43;
-    uint8_t r1_46_0_r1_46_0_r1_46_16_42;
-    uint8_t r1_5522_0_r1_5522_0_r1_5522_160_r0_6_160_41;
-    uint8_t r1_8_0_ph;
-    uint8_t r7_9_0_0;
-    uint8_t r7_9_2_0;
-    uint16_t r7_9_3_0;
-    u128 r7_9_5_0;
-    uint64_t r7_9_7_0;
-    uint64_t r7_9_8_0;
-    uint64_t r7_9_9_0;
-    uint64_t r7_9_10_0;
-    uint64_t r7_9_11_0;
-    uint64_t r7_9_12_0;
-    uint8_t r7_9_13_0;
-    uint64_t r7_9_15_0;
-    uint8_t r7_9_16_0;
-    uint8_t r7_9_17_0;
-    uint8_t r7_9_18_0;
-    uint8_t r7_9_19_0;
-    uint8_t r7_9_20_0;
-    uint8_t r7_0_0;
-    uint8_t r7_3_0;
-    uint8_t r7_6_0;
-    uint8_t r7_11_0;
-    identification_identify(r5, a1);
-    if (*r5 != 0u) {
-        r7_9_0_0 = 0u; /* any */
-        r7_9_2_0 = 0u; /* any */
-        r7_9_3_0 = 0u; /* any */
-        r7_9_5_0 = u128_of(0u, 0u); /* any */
-        r7_9_7_0 = 0u; /* any */
-        r7_9_8_0 = 0u; /* any */
-        r7_9_9_0 = 0u; /* any */
-        r7_9_10_0 = 0u; /* any */
-        r7_9_11_0 = 0u; /* any */
-        r7_9_12_0 = 0u; /* any */
-        r7_9_13_0 = 0u; /* any */
-        r7_9_15_0 = 0u; /* any */
-        r7_9_16_0 = 0u; /* any */
-        r7_9_17_0 = 0u; /* any */
-        r7_9_18_0 = 0u; /* any */
-        r7_9_19_0 = 0u; /* any */
-        r7_9_20_0 = 0u; /* any */
-        r7_0_0 = 1u;
-        r7_3_0 = 0u;
-        r7_6_0 = r5[1];
-        r7_11_0 = 0u; /* any */
-        goto join_4;
-    }
-    memcpy(r2, r5 + 16, 64);
-    r16 = r2[1];
-    v1 = r16 == 0u;
-    r4_6_pre = *r2;
-    if (!v1) {
-        goto join_4_2;
-    }
-    host_ask(r2_2, a1, 16u, 512u);
-    if (*r2_2 != 0u) {
-        goto mmc_switch_widening_widen_1bed76fd314cf36e_exit_thread;
-    }
-    uint32_t v4 = load32_aligned(r2_2 + 4);
-    if ((v4 & ((r4_6_pre == 0u) ? UINT32_C(0xfd39a000) : UINT32_C(0xfd39a080))) == 0u) {
-        goto join_4_2;
-    }
-mmc_switch_widening_widen_1bed76fd314cf36e_exit_thread: {
-    r7_9_0_0 = 0u; /* any */
-    r7_9_2_0 = 0u;
-    r7_9_3_0 = 0u; /* any */
-    r7_9_5_0 = u128_of(0u, 0u); /* any */
-    r7_9_7_0 = 0u; /* any */
-    r7_9_8_0 = 0u; /* any */
-    r7_9_9_0 = 0u; /* any */
-    r7_9_10_0 = 0u; /* any */
-    r7_9_11_0 = 0u; /* any */
-    r7_9_12_0 = 0u; /* any */
-    r7_9_13_0 = 0u; /* any */
-    r7_9_15_0 = 0u; /* any */
-    r7_9_16_0 = 0u; /* any */
-    r7_9_17_0 = 0u; /* any */
-    r7_9_18_0 = 0u; /* any */
-    r7_9_19_0 = 0u; /* any */
-    r7_9_20_0 = 0u; /* any */
-    r7_0_0 = 1u;
-    r7_3_0 = 1u;
-    r7_6_0 = 0u;
-    r7_11_0 = 0u; /* any */
-    goto join_4;
-}
-join_4_2: {
-    if (r4_6_pre == 0u) {
-        r24 = load16_aligned(r2 + 2);
-        r4_0 = load128_aligned(r2 + 48);
-        r2_0_in = u128_eq(u128_and(r4_0, u128_of(UINT64_C(0xfff00000), 0u)), u128_of(0u, 0u)) || !u128_eq(u128_and(r4_0, u128_of(UINT64_C(0x40000000), 0u)), u128_of(0u, 0u));
-        uint8_t r7 = sd_announce_2(a1, r24);
-        if (r7 != 0u) {
-            r1_8_0_ph = 0u;
-            goto mmc_switch_widening_widen_1bed76fd314cf36e_exit_thread1;
-        }
-        host_ask(r7_2, a1, 51u, 0u);
-        if (*r7_2 != 0u) {
-            goto mmc_switch_sd_read_scr_1bed76fd314cf36e_exit_thread46;
-        }
-        if (!((load32_aligned(r7_2 + 4) & UINT32_C(0xfd39a000)) == 0u)) {
-            goto mmc_switch_sd_read_scr_1bed76fd314cf36e_exit_thread46;
-        }
-        store64_aligned(r2_3, 0u);
-        uint8_t r43 = data_receive(a1, r2_3, 8u);
-        if (r43 != 0u) {
-            goto mmc_switch_sd_read_scr_1bed76fd314cf36e_exit_thread46;
-        }
-        r130 = bswap64(load64_aligned(r2_3));
-        if ((r130 & UINT64_C(0x4000000000000)) == 0u) {
-            r0_3_0_ph = 0u;
-            goto arm_5;
-        }
-        if (a1[90] == 0u) {
-            r0_3_0_ph = 0u;
-            goto arm_5;
-        }
-        uint8_t r12 = sd_announce_2(a1, r24);
-        if (r12 != 0u) {
-            r1_8_0_ph = 0u;
-            goto mmc_switch_widening_widen_1bed76fd314cf36e_exit_thread1;
-        }
-        host_ask(r2_4, a1, 6u, 2u);
-        uint8_t v16 = *r2_4;
-        uint32_t v18 = load32_aligned(r2_4 + 4);
-        if (!((v16 == 0u) && ((v18 & UINT32_C(0xfd39a000)) == 0u))) {
-            r1_8_0_ph = 0u;
-            goto mmc_switch_widening_widen_1bed76fd314cf36e_exit_thread1;
-        }
-        a1[88] = 1u;
-        a1[89] = 0u;
-        r0_3_0_ph = 1u;
-        goto arm_5;
-    }
-    r0_0_0 = a1[90];
-    uint8_t r0_2_0 = a1[91];
-    host_ask(r7_3, a1, 8u, 0u);
-    if (*r7_3 != 0u) {
-        goto arm_2_6;
-    }
-    if (!((load32_aligned(r7_3 + 4) & UINT32_C(0xfd39a080)) == 0u)) {
-        goto arm_2_6;
-    }
-    memset(r2_3_2, 0u, 512);
-    uint8_t r40 = data_receive(a1, r2_3_2, 512u);
-    if (r40 != 0u) {
-        goto arm_2_6;
-    }
-    uint8_t r14_8_0_2_0 = r2_3_2[143];
-    uint8_t r14_8_0_3_0 = r2_3_2[144];
-    uint8_t r14_8_0_4_0 = r2_3_2[145];
-    uint8_t r14_8_0_5_0 = r2_3_2[146];
-    uint8_t r14_8_0_6_0 = r2_3_2[147];
-    uint8_t r14_8_0_7_0 = r2_3_2[148];
-    uint8_t r14_8_0_8_0 = r2_3_2[149];
-    uint8_t r14_8_0_9_0 = r2_3_2[150];
-    uint8_t r14_8_0_10_0 = r2_3_2[151];
-    uint8_t r14_8_0_11_0 = r2_3_2[152];
-    uint8_t r14_8_0_12_0 = r2_3_2[153];
-    uint8_t r14_8_0_13_0 = r2_3_2[154];
-    uint8_t r14_8_0_14_0 = r2_3_2[155];
-    r14_8_0_16_0 = r2_3_2[179];
-    uint8_t r14_8_0_18_0 = r2_3_2[181];
-    uint8_t r14_8_2_0 = r2_3_2[192];
-    uint8_t r14_8_3_2_0 = r2_3_2[196];
-    uint32_t r14_8_4_0 = load32(r2_3_2 + 212);
-    uint64_t r14_8_5_0 = load64(r2_3_2 + 216);
-    r14_8_6_0 = r2_3_2[224];
-    uint8_t r14_8_7_2_0 = r2_3_2[226];
-    uint8_t r14_8_7_4_0 = r2_3_2[231];
-    v39 = (uint8_t)(((uint8_t)(r14_8_3_2_0 & 2u) == 0u) ? 0u : r0_2_0);
-    v41 = (uint64_t)r14_8_7_2_0 << 8u;
-    v43 = (uint8_t)(r14_8_0_14_0 & 1u) == 0u;
-    v50 = (((uint64_t)r14_8_0_3_0 << 8u) | (uint64_t)r14_8_0_2_0) | ((uint64_t)r14_8_0_4_0 << 16u);
-    v52 = (r14_8_5_0 >> 30u) & UINT64_C(0x3fc00);
-    v59 = (((uint64_t)r14_8_0_6_0 << 8u) | (uint64_t)r14_8_0_5_0) | ((uint64_t)r14_8_0_7_0 << 16u);
-    v66 = (((uint64_t)r14_8_0_9_0 << 8u) | (uint64_t)r14_8_0_8_0) | ((uint64_t)r14_8_0_10_0 << 16u);
-    v73 = (((uint64_t)r14_8_0_12_0 << 8u) | (uint64_t)r14_8_0_11_0) | ((uint64_t)r14_8_0_13_0 << 16u);
-    v74 = r14_8_0_18_0 != 0u;
-    v76 = (uint8_t)((uint8_t)((uint32_t)r14_8_7_4_0 >> 4u) & 1u);
-    if ((r14_8_2_0 < 5u) || (r14_8_6_0 == 0u)) {
-        r1_8_2_ph = 1u;
-        goto mmc_switch_widening_widen_1bed76fd314cf36e_exit_thread60;
-    }
-    if (!((r16 != 1u) || (r14_8_4_0 != 0u))) {
-        r1_8_2_ph = 1u;
-        goto mmc_switch_widening_widen_1bed76fd314cf36e_exit_thread60;
-    }
-    v78 = (uint64_t)r14_8_4_0;
-    r80 = load16_aligned(r2 + 2);
-    struct of_i8_i8 r6_21 = mmc_switch(a1, r80, UINT32_C(0x3af0100));
-    if (r6_21.f0 != 0u) {
-        r1_8_2_ph = 0u;
-        goto mmc_switch_widening_widen_1bed76fd314cf36e_exit_thread60;
-    }
-    if (r0_0_0 == 0u) {
-        goto arm_6_25;
-    }
-    struct of_i8_i8 r16_2 = mmc_switch(a1, r80, ((uint32_t)r0_0_0 << 8u) | UINT32_C(0x3b70000));
-    if (r16_2.f0 != 0u) {
-        r1_8_2_ph = 0u;
-        goto mmc_switch_widening_widen_1bed76fd314cf36e_exit_thread60;
-    }
-    a1[88] = r0_0_0;
-    a1[89] = 0u;
-    goto arm_6_25;
-}
-arm_2_6: {
-    r1_8_2_ph = 0u;
-    goto mmc_switch_widening_widen_1bed76fd314cf36e_exit_thread60;
-}
-arm_6_25: {
-    if (v39 == 0u) {
-        goto arm_8;
-    }
-    struct of_i8_i8 r12_2 = mmc_switch(a1, r80, UINT32_C(0x3b90100));
-    if (r12_2.f0 != 0u) {
-        r1_8_2_ph = 0u;
-        goto mmc_switch_widening_widen_1bed76fd314cf36e_exit_thread60;
-    }
-    a1[88] = r0_0_0;
-    a1[89] = 1u;
-}
-arm_8: {
-    r21 = r2[32];
-    if (!v1) {
-        v = UINT64_C(0x100000000);
-        r1_0 = v78;
-        goto mmc_switch_registers_mmc_info_exit;
-    }
-    uint64_t r7_17 = Csd_sectors(r2 + 32);
-    v = UINT64_C(0x800000);
-    r1_0 = r7_17;
-}
-mmc_switch_registers_mmc_info_exit: {
-    a0_14 = (r1_0 > v) ? 0u : r1_0;
-    pre = (uint64_t)r14_8_6_0;
-    if (v43) {
-        a0_17_297 = 0u;
-        a0_11_283288296 = 0u;
-        a0_14_289295 = 0u;
-        common_ret_op = 0u;
-        goto mmc_switch_widening_widen_1bed76fd314cf36e_exit;
-    }
-    uint64_t r24_139 = (v50 * pre) * v52;
-    uint64_t r24_110 = (v59 * pre) * v52;
-    uint64_t r24_81 = (v66 * pre) * v52;
-    a0_17_297 = (r24_81 > v) ? 0u : r24_81;
-    a0_11_283288296 = (r24_139 > v) ? 0u : r24_139;
-    a0_14_289295 = (r24_110 > v) ? 0u : r24_110;
-    common_ret_op = (v73 * pre) * v52;
-}
-mmc_switch_widening_widen_1bed76fd314cf36e_exit: {
-    u128 r4_0_15 = load128_aligned(r2 + 48);
-    memcpy(r0_4 + 12, r5 + 32, 16);
-    sink80_phi = r5 + 64;
-    r1_28_sink = r1_28;
-    r1_14_0_57 = 1u;
-    r1_22_0_56 = r80;
-    r1_26_0_55_in = r21;
-    r1_30_0_54 = a0_14;
-    r1_38_0_53_in_in_in = r4_0_15;
-    r1_4021_0_52 = pre << 10u;
-    r1_42_0_51 = (uint8_t)(v74 ? 255u : 0u);
-    r1_44_0_50 = v76;
-    r1_51_0_49 = r0_0_0;
-    r1_53_0_48 = v39;
-    r1_37_0_47 = (common_ret_op > v) ? 0u : common_ret_op;
-    r1_36_0_46 = a0_17_297;
-    r1_35_0_45 = a0_14_289295;
-    r1_34_0_44 = a0_11_283288296;
-    r1_32_0_43 = v41;
-    r1_46_0_r1_46_0_r1_46_16_42 = 1u;
-    r1_5522_0_r1_5522_0_r1_5522_160_r0_6_160_41 = r14_8_0_16_0;
-    goto arm_5_2;
-}
-mmc_switch_widening_widen_1bed76fd314cf36e_exit_thread60: {
-    r7_9_0_0 = 1u;
-    r7_9_2_0 = r16;
-    r7_9_3_0 = 0u; /* any */
-    r7_9_5_0 = u128_of(0u, 0u); /* any */
-    r7_9_7_0 = 0u; /* any */
-    r7_9_8_0 = 0u; /* any */
-    r7_9_9_0 = 0u; /* any */
-    r7_9_10_0 = 0u; /* any */
-    r7_9_11_0 = 0u; /* any */
-    r7_9_12_0 = 0u; /* any */
-    r7_9_13_0 = 0u; /* any */
-    r7_9_15_0 = 0u; /* any */
-    r7_9_16_0 = 0u; /* any */
-    r7_9_17_0 = 0u; /* any */
-    r7_9_18_0 = 0u; /* any */
-    r7_9_19_0 = 0u; /* any */
-    r7_9_20_0 = 0u; /* any */
-    r7_0_0 = 1u;
-    r7_3_0 = 1u;
-    r7_6_0 = r1_8_2_ph;
-    r7_11_0 = 0u; /* any */
-    goto join_4;
-}
-mmc_switch_sd_read_scr_1bed76fd314cf36e_exit_thread46: {
-    r1_8_0_ph = 0u;
-    goto mmc_switch_widening_widen_1bed76fd314cf36e_exit_thread1;
-}
-arm_5: {
-    if (!(r2_0_in && ((r130 & UINT64_C(0xf00000000000000)) != 0u))) {
-        r3_3_0_62 = 0u;
-        goto arm_8_2;
-    }
-    if (a1[91] != 1u) {
-        r3_3_0_62 = 0u;
-        goto arm_8_2;
-    }
-    sd_switch_func(r7_3_2, a1, UINT32_C(0xfffff1));
-    if (*r7_3_2 != 0u) {
-        goto arm_9;
-    }
-    if ((uint8_t)(r7_3_2[14] & 2u) == 0u) {
-        r3_3_0_62_ph = 0u;
-        goto arm_8_sink_split;
-    }
-    sd_switch_func(r7_1, a1, UINT32_C(0x80fffff1));
-    if (*r7_1 != 0u) {
-        goto arm_9;
-    }
-    if (!((uint8_t)(r7_1[17] & 15u) == 1u)) {
-        r0_3_0_ph_2 = 0u;
-        goto mmc_switch_sd_set_timing_1bed76fd314cf36e_exit_thread75;
-    }
-    a1[88] = r0_3_0_ph;
-    a1[89] = 1u;
-    r0_3_0_ph_2 = 1u;
-    goto mmc_switch_sd_set_timing_1bed76fd314cf36e_exit_thread75;
-}
-arm_9: {
-    r1_8_0_ph = 0u;
-    goto mmc_switch_widening_widen_1bed76fd314cf36e_exit_thread1;
-}
-mmc_switch_sd_set_timing_1bed76fd314cf36e_exit_thread75: {
-    r3_3_0_62_ph = r0_3_0_ph_2;
-}
-arm_8_sink_split: {
-    r3_3_0_62 = r3_3_0_62_ph;
-}
-arm_8_2: {
-    struct of_i8_i8 r82 = status_confirm(a1, 0u, r24);
-    if (r82.f0 != 0u) {
-        r1_8_0_ph = 0u;
-        goto mmc_switch_widening_widen_1bed76fd314cf36e_exit_thread1;
-    }
-    r3 = r2[32];
-    switch (r3) {
-    default: {
-        trap();
-        return;
-    }
-    case 2u: {
-        r1_8_0_ph = 1u;
-        goto mmc_switch_widening_widen_1bed76fd314cf36e_exit_thread1;
-    }
-    case 0u: {
-        if (!u128_eq(u128_and(r4_0, u128_of(0u, UINT64_C(0x400000000000))), u128_of(0u, 0u))) {
-            r1_3_2_0 = 1u;
-            goto mmc_switch_widening_widen_1bed76fd314cf36e_exit_thread21;
-        }
-        uint64_t v25 = (uint64_t)r4_0.lo;
-        r1_3_2_0 = ((uint64_t)((uint64_t)(v25 >> 39u) & 127u) + 1u) << (((uint64_t)((uint64_t)((uint64_t)(v25 >> 22u) & 15u) + 247u) & 255u) & 63u);
-        goto mmc_switch_widening_widen_1bed76fd314cf36e_exit_thread21;
-    }
-    case 1u: {
-        r1_3_2_0 = 1u;
-        goto mmc_switch_widening_widen_1bed76fd314cf36e_exit_thread21;
-    }
-    }
-}
-mmc_switch_widening_widen_1bed76fd314cf36e_exit_thread21: {
-    memcpy(r1_28, r5 + 64, 16);
-    uint64_t r7_7 = Csd_sectors(r2 + 32);
-    sink80_phi = r5 + 32;
-    r1_28_sink = r0_4 + 12;
-    r1_14_0_57 = 0u;
-    r1_22_0_56 = r24;
-    r1_26_0_55_in = r3;
-    r1_30_0_54 = (v1 && (r7_7 > UINT64_C(0x800000))) ? 0u : r7_7;
-    r1_38_0_53_in_in_in = r4_0;
-    r1_4021_0_52 = r1_3_2_0;
-    r1_42_0_51 = (uint8_t)((((r130 << 8u) ^ (uint64_t)UINT64_C(0x8000000000000000)) >> 63u) - ((uint64_t)UINT64_C(0x8000000000000000) >> 63u));
-    r1_44_0_50 = 0u;
-    r1_51_0_49 = r0_3_0_ph;
-    r1_53_0_48 = r3_3_0_62;
-    r1_37_0_47 = 0u;
-    r1_36_0_46 = 0u;
-    r1_35_0_45 = 0u;
-    r1_34_0_44 = 0u;
-    r1_32_0_43 = 0u;
-    r1_46_0_r1_46_0_r1_46_16_42 = (uint8_t)((uint8_t)(r130 >> 33u) & 1u);
-    r1_5522_0_r1_5522_0_r1_5522_160_r0_6_160_41 = 0u;
-}
-arm_5_2: {
-    memcpy(r1_28_sink, sink80_phi, 16);
-    r7_9_0_0 = r1_14_0_57;
-    r7_9_2_0 = r16;
-    r7_9_3_0 = r1_22_0_56;
-    r7_9_5_0 = u128_of(0u, r1_26_0_55_in);
-    r7_9_7_0 = r1_30_0_54;
-    r7_9_8_0 = r1_32_0_43;
-    r7_9_9_0 = r1_34_0_44;
-    r7_9_10_0 = r1_35_0_45;
-    r7_9_11_0 = r1_36_0_46;
-    r7_9_12_0 = r1_37_0_47;
-    r7_9_13_0 = (uint8_t)!u128_eq(u128_and(r1_38_0_53_in_in_in, u128_of(0u, 12288u)), u128_of(0u, 0u));
-    r7_9_15_0 = r1_4021_0_52;
-    r7_9_16_0 = r1_42_0_51;
-    r7_9_17_0 = r1_44_0_50;
-    r7_9_18_0 = r1_46_0_r1_46_0_r1_46_16_42;
-    r7_9_19_0 = r1_51_0_49;
-    r7_9_20_0 = r1_53_0_48;
-    r7_0_0 = 0u;
-    r7_3_0 = 1u;
-    r7_6_0 = 0u; /* any */
-    r7_11_0 = r1_5522_0_r1_5522_0_r1_5522_160_r0_6_160_41;
-    goto join_4;
-}
-mmc_switch_widening_widen_1bed76fd314cf36e_exit_thread1: {
-    r7_9_0_0 = 0u;
-    r7_9_2_0 = r16;
-    r7_9_3_0 = r24;
-    r7_9_5_0 = u128_of(0u, 0u); /* any */
-    r7_9_7_0 = 0u; /* any */
-    r7_9_8_0 = 0u; /* any */
-    r7_9_9_0 = 0u; /* any */
-    r7_9_10_0 = 0u; /* any */
-    r7_9_11_0 = 0u; /* any */
-    r7_9_12_0 = 0u; /* any */
-    r7_9_13_0 = 0u; /* any */
-    r7_9_15_0 = 0u; /* any */
-    r7_9_16_0 = 0u; /* any */
-    r7_9_17_0 = 0u; /* any */
-    r7_9_18_0 = 0u; /* any */
-    r7_9_19_0 = 0u; /* any */
-    r7_9_20_0 = 0u; /* any */
-    r7_0_0 = 1u;
-    r7_3_0 = 1u;
-    r7_6_0 = r1_8_0_ph;
-    r7_11_0 = 0u; /* any */
-}
-join_4: {
-    *a0 = r7_0_0;
-    a0[1] = r7_3_0;
-    a0[2] = r7_6_0;
-    a0[16] = r7_9_0_0;
-    a0[17] = r7_9_2_0;
-    store16(a0 + 18, r7_9_3_0);
-    memcpy(a0 + 20, r0_4, 28);
-    store128(a0 + 48, r7_9_5_0);
-    memcpy(a0 + 64, r1_28, 16);
-    store64(a0 + 80, r7_9_7_0);
-    store64(a0 + 88, r7_9_8_0);
-    store64(a0 + 96, r7_9_9_0);
-    store64(a0 + 104, r7_9_10_0);
-    store64(a0 + 112, r7_9_11_0);
-    store64(a0 + 120, r7_9_12_0);
-    a0[128] = r7_9_13_0;
-    store64(a0 + 136, r7_9_15_0);
-    a0[144] = r7_9_16_0;
-    a0[145] = r7_9_17_0;
-    a0[146] = r7_9_18_0;
-    a0[147] = r7_9_19_0;
-    a0[148] = r7_9_20_0;
-    a0[160] = r7_11_0;
-    a0[161] = 1u;
-    a0[162] = 0u;
-    return;
-}
-}
-
-/* mmc_identify::identification::identify::<#1bed76fd314cf36e> */
-static void identification_identify(uint8_t *a0, uint8_t *a1)
-{
-    KELIFANDRO_ROOM uint8_t room[80];
-    uint8_t *const r21_38 = room;
-    uint8_t *const r34_4 = room;
-    uint8_t *const r2_3 = room;
-    uint8_t *const r1_1 = room;
-    uint8_t *const r1_25 = room;
-    uint8_t *const r1_9 = room;
-    uint8_t *const r1_3 = room;
-    uint8_t *const r1_4 = room;
-    uint8_t *const r1_8 = room;
-    uint8_t *const r0 = room;
-    uint8_t *const r0_2 = room;
-    uint8_t *const r6 = room;
-    uint8_t *const r1 = room;
-    uint8_t *const r17_4_2 = room;
-    uint8_t *const r2 = room + 8;
-    uint8_t *const r1_2 = room + 16;
-    uint8_t *const r5 = room + 16;
-    uint8_t *const r2_2 = room + 24;
-    uint8_t *const r12_8 = room + 40;
-    uint8_t *const r16 = room + 48;
-    uint8_t *const r17_7_2 = room + 56;
-    KELIFANDRO_ROOM uint8_t r7[16];
-    bool v0;
-    bool r43;
-    uint8_t r1_019;
-    uint8_t r1_025;
-    uint8_t r8_4_0_ph;
-    uint8_t r16_3_0_ph;
-    uint8_t r8_3_0_ph;
-    uint32_t r16_6_0;
-    uint8_t r14_4_0;
-    uint32_t r14_7_0;
-    uint8_t r1_2_1_12;
-    uint16_t r2_6_0_54;
-    uint32_t r4;
-    uint8_t r18_5_0_ph;
-    uint64_t r13;
-    uint64_t r2_010;
-    uint8_t r0_4_0_ph;
-    u128 r4_0_0_fr;
-    u128 r38_67;
-    uint8_t r24_0_0;
-    uint8_t r0_32_0;
-    uint8_t r0_12_0;
-    uint8_t r0_0_0;
-    u128 r0_39_0;
-    u128 r0_40_0;
-    uint8_t r49_pn_ph;
-    shared_go_idle(a1);
-    a1[88] = 0u;
-    a1[89] = 0u;
-    host_ask(r1, a1, 8u, 426u);
-    v0 = *r1 == 0u;
-    if (!v0) {
-        uint8_t r1_2_1 = r1[1];
-        if (r1_2_1 == 0u) {
-            goto arm_1;
-        }
-        r8_3_0_ph = 0u;
-        goto arm_2;
-    }
-    uint32_t r1_4_4 = load32_aligned(r1 + 4);
-    if ((uint32_t)(r1_4_4 & 4095u) == 426u) {
-        goto arm_1;
-    }
-    r8_3_0_ph = 1u;
-    goto arm_2;
-arm_1: {
-    struct of_i8_i8 r29 = sd_announce(a1);
-    uint8_t r38 = r29.f1;
-    if (r29.f0 != 0u) {
-        r8_3_0_ph = r38;
-        goto arm_2;
-    }
-    r43 = (r38 & 1u) != 0;
-    if (!r43) {
-        shared_go_idle(a1);
-        r1_019 = 0u;
-        goto join_5;
-    }
-    sd_inquire(r6, a1, v0);
-    if (*r6 != 0u) {
-        r16_3_0_ph = r6[1];
-        goto arm_9;
-    }
-    if (r6[4] == 1u) {
-        r16_6_0 = load32_aligned(r6 + 8);
-        goto arm_8;
-    }
-    r1_025 = 1u;
-    goto join_5_2;
-}
-join_5: {
-    host_ask_ocr(r1_2, a1, 1u, UINT32_C(0x40300000));
-    judging_inquired(r0, r1_2);
-    uint8_t v10 = *r0;
-    uint8_t v11 = r0[1];
-    uint8_t r10 = r0[4];
-    uint32_t v12 = load32_aligned(r0 + 8);
-    if (v10 != 0u) {
-        r8_3_0_ph = v11;
-        goto arm_2;
-    }
-    if (r10 == 1u) {
-        r14_4_0 = 1u;
-        r14_7_0 = v12;
-        goto arm_1_2;
-    }
-    if (r1_019 < 15u) {
-        r1_019 = (uint8_t)(r1_019 + 1u);
-        goto join_5;
-    }
-    r8_3_0_ph = 0u;
-    goto arm_2;
-}
-join_5_2: {
-    struct of_i8_i8 r14 = sd_announce(a1);
-    uint8_t r23 = r14.f1;
-    if (r14.f0 != 0u) {
-        r8_4_0_ph = r23;
-        goto mmc_identify_sd_inquire_again_1bed76fd314cf36e_exit_thread;
-    }
-    if (!((r23 & 1u) != 0)) {
-        r8_4_0_ph = 0u;
-        goto mmc_identify_sd_inquire_again_1bed76fd314cf36e_exit_thread;
-    }
-    sd_inquire(r0_2, a1, v0);
-    uint8_t v5 = *r0_2;
-    uint8_t v6 = r0_2[1];
-    uint8_t r69 = r0_2[4];
-    uint32_t v7 = load32_aligned(r0_2 + 8);
-    if (v5 != 0u) {
-        r16_3_0_ph = v6;
-        goto arm_9;
-    }
-    if (r69 == 1u) {
-        r16_6_0 = v7;
-        goto arm_8;
-    }
-    if (r1_025 < 15u) {
-        r1_025 = (uint8_t)(r1_025 + 1u);
-        goto join_5_2;
-    }
-    r16_3_0_ph = 0u;
-    goto arm_9;
-}
-mmc_identify_sd_inquire_again_1bed76fd314cf36e_exit_thread: {
-    r16_3_0_ph = r8_4_0_ph;
-}
-arm_9: {
-    r8_3_0_ph = r16_3_0_ph;
-}
-arm_2: {
-    *a0 = 1u;
-    a0[1] = r8_3_0_ph;
-    goto common_ret;
-}
-arm_8: {
-    r14_4_0 = 0u;
-    r14_7_0 = r16_6_0;
-}
-arm_1_2: {
-    host_ask_register(r1_8, a1, 2u, 0u);
-    if (*r1_8 != 0u) {
-        r18_5_0_ph = 0u;
-        goto arm_6;
-    }
-    r1_2_1_12 = r1_8[1];
-    memcpy(r12_8, r1_8 + 2, 15);
-    memcpy(r2_2, r12_8, 15);
-    if (!r43) {
-        host_ask(r1_3, a1, 3u, UINT32_C(0x10000));
-        uint8_t r1_0_0_13 = *r1_3;
-        if (r1_0_0_13 == 0u) {
-            r2_6_0_54 = 1u;
-            goto arm_5;
-        }
-        r18_5_0_ph = 0u;
-        goto arm_6;
-    }
-    host_ask(r1_4, a1, 3u, 0u);
-    bool v18 = *r1_4 == 0u;
-    uint32_t r302 = load32_aligned(r1_4 + 4) >> 16u;
-    if (v18 && (r302 != 0u)) {
-        r2_6_0_54 = (uint16_t)(v18 ? (uint16_t)r302 : 0u);
-        goto arm_5;
-    }
-    r18_5_0_ph = (uint8_t)(v18 ? 2u : 0u);
-    goto arm_6;
-}
-arm_5: {
-    r4 = (uint32_t)r2_6_0_54 << 16u;
-    host_ask_register(r1_9, a1, 9u, r4);
-    if (*r1_9 != 0u) {
-        r18_5_0_ph = 0u;
-        goto arm_6;
-    }
-    uint8_t r1_2_1_15 = r1_9[1];
-    memcpy(r12_8, r1_9 + 2, 15);
-    memcpy(r17_4_2, r2_2, 15);
-    memcpy(r17_7_2, r12_8, 15);
-    *r5 = r1_2_1_12;
-    memcpy(r5 + 1, r17_4_2, 15);
-    *r7 = r1_2_1_15;
-    memcpy(r7 + 1, r17_7_2, 15);
-    host_ask(r1_25, a1, 7u, r4);
-    uint32_t v24 = load32_aligned(r1_25 + 4);
-    bool v25 = *r1_25 == 0u;
-    if (!(v25 && ((v24 & UINT32_C(0x2000000)) == 0u))) {
-        r49_pn_ph = (uint8_t)(v25 ? 4u : 0u);
-        goto arm_9_2;
-    }
-    wait_count_polls(r1_1, a1);
-    uint8_t r1_0_0_32 = *r1_1;
-    uint64_t r1_4_8 = load64_aligned(r1_1 + 8);
-    if (r1_0_0_32 != 0u) {
-        r49_pn_ph = 0u;
-        goto arm_9_2;
-    }
-    r13 = 16u - r1_4_8;
-    if (r1_4_8 == 16u) {
-        r49_pn_ph = 0u;
-        goto arm_9_2;
-    }
-    r2_010 = 0u;
-    goto join_5_3;
-}
-arm_6: {
-    *a0 = 1u;
-    a0[1] = r18_5_0_ph;
-    goto common_ret;
-}
-join_5_3: {
-    host_ask(r2, a1, 13u, r4);
-    uint8_t v30 = *r2;
-    *r2_3 = v30;
-    r2_3[1] = r2[1];
-    uint32_t v32 = load32_aligned(r2 + 4);
-    store32_aligned(r2_3 + 4, v32);
-    if (v30 != 0u) {
-        r0_4_0_ph = 0u;
-        goto mmc_identify_shared_ask_status_1bed76fd314cf36e_exit_thread;
-    }
-    if (!((v32 & UINT32_C(0x2000000)) == 0u)) {
-        r0_4_0_ph = 4u;
-        goto mmc_identify_shared_ask_status_1bed76fd314cf36e_exit_thread;
-    }
-    struct of_i8_i8 r42 = status_check_closing(r14_4_0, r2_3);
-    if (r42.f0 != 0u) {
-        r49_pn_ph = 0u;
-        goto arm_9_2;
-    }
-    if (r42.f1 != 0u) {
-        uint64_t r44 = r2_010 + 1u;
-        if (r44 == r13) {
-            r49_pn_ph = 0u;
-            goto arm_9_2;
-        }
-        r2_010 = r44;
-        goto join_5_3;
-    }
-    cid_read_cid(r16, r5);
-    if (*r16 != 0u) {
-        r0_32_0 = 0u; /* any */
-        r0_12_0 = 2u;
-        r0_0_0 = 1u;
-        r0_39_0 = u128_of(0u, 0u); /* any */
-        r0_40_0 = u128_of(0u, 0u); /* any */
-        goto mmc_identify_judging_found_exit;
-    }
-    csd_read_csd(r21_38, r14_4_0, r7);
-    if (*r21_38 != 0u) {
-        r0_32_0 = 0u; /* any */
-        r0_12_0 = 2u;
-        r0_0_0 = 1u;
-        r0_39_0 = u128_of(0u, 0u); /* any */
-        r0_40_0 = u128_of(0u, 0u); /* any */
-        goto mmc_identify_judging_found_exit;
-    }
-    uint8_t r6_2 = r21_38[16];
-    r4_0_0_fr = load128_aligned(r21_38 + 32);
-    r38_67 = u128_of(0u, r6_2);
-    if (r43) {
-        bool r9_not = (r14_7_0 & UINT32_C(0x40000000)) == 0u;
-        switch (r6_2) {
-        default: {
-            trap();
-            return;
-        }
-        case 0u: {
-            if (r9_not) {
-                r24_0_0 = 0u;
-                goto join_10;
-            }
-            r0_32_0 = 0u; /* any */
-            r0_12_0 = 3u;
-            r0_0_0 = 1u;
-            r0_39_0 = u128_of(0u, 0u); /* any */
-            r0_40_0 = u128_of(0u, 0u); /* any */
-            goto mmc_identify_judging_found_exit;
-        }
-        case 1u: {
-            if (r9_not) {
-                r0_32_0 = 0u; /* any */
-                r0_12_0 = 3u;
-                r0_0_0 = 1u;
-                r0_39_0 = u128_of(0u, 0u); /* any */
-                r0_40_0 = u128_of(0u, 0u); /* any */
-                goto mmc_identify_judging_found_exit;
-            }
-            r24_0_0 = 1u;
-            goto join_10;
-        }
-        case 2u: {
-            r0_32_0 = 0u; /* any */
-            r0_12_0 = 3u;
-            r0_0_0 = 1u;
-            r0_39_0 = u128_of(0u, 0u); /* any */
-            r0_40_0 = u128_of(0u, 0u); /* any */
-            goto mmc_identify_judging_found_exit;
-        }
-        }
-    }
-    switch ((uint8_t)((uint8_t)(r14_7_0 >> 29u) & 3u)) {
-    default: {
-        r0_32_0 = 0u; /* any */
-        r0_12_0 = 3u;
-        r0_0_0 = 1u;
-        r0_39_0 = u128_of(0u, 0u); /* any */
-        r0_40_0 = u128_of(0u, 0u); /* any */
-        goto mmc_identify_judging_found_exit;
-    }
-    case 0u: {
-        if (r6_2 != 2u) {
-            r0_32_0 = 0u; /* any */
-            r0_12_0 = 2u;
-            r0_0_0 = 1u;
-            r0_39_0 = u128_of(0u, 0u); /* any */
-            r0_40_0 = u128_of(0u, 0u); /* any */
-            goto mmc_identify_judging_found_exit;
-        }
-        if ((uint8_t)((uint8_t)((uint8_t)u128_lshr(r4_0_0_fr, 80u).lo & 15u) + 247u) < 3u) {
-            r24_0_0 = 0u;
-            goto join_10;
-        }
-        r0_32_0 = 0u; /* any */
-        r0_12_0 = 2u;
-        r0_0_0 = 1u;
-        r0_39_0 = u128_of(0u, 0u); /* any */
-        r0_40_0 = u128_of(0u, 0u); /* any */
-        goto mmc_identify_judging_found_exit;
-    }
-    case 2u: {
-        r24_0_0 = 1u;
-        goto join_10;
-    }
-    }
-}
-mmc_identify_shared_ask_status_1bed76fd314cf36e_exit_thread: {
-    r49_pn_ph = r0_4_0_ph;
-    goto arm_9_2;
-}
-join_10: {
-    memcpy(r34_4 + 12, r16 + 16, 16);
-    r0_32_0 = r24_0_0;
-    r0_12_0 = 0u; /* any */
-    r0_0_0 = 0u;
-    r0_39_0 = r38_67;
-    r0_40_0 = r4_0_0_fr;
-}
-mmc_identify_judging_found_exit: {
-    *a0 = r0_0_0;
-    a0[1] = r0_12_0;
-    a0[16] = r14_4_0;
-    a0[17] = r0_32_0;
-    store16(a0 + 18, r2_6_0_54);
-    memcpy(a0 + 20, r34_4, 28);
-    store128(a0 + 48, r0_39_0);
-    store128(a0 + 64, r0_40_0);
-    goto common_ret;
-}
-arm_9_2: {
-    *a0 = 1u;
-    a0[1] = r49_pn_ph;
-}
-common_ret: {
-    return;
-}
-}
-
-/* mmc_identify::shared::go_idle::<#1bed76fd314cf36e> */
-static void shared_go_idle(uint8_t *a0)
-{
-    KELIFANDRO_ROOM uint8_t r0[18];
-    KELIFANDRO_ROOM uint8_t r2[6];
-    frame_framed(r2, 64u, 0u);
-    HostBusBus_command(r0, a0, r2, 0u);
-    return;
-}
-
-/* mmc_identify::sd::announce::<#1bed76fd314cf36e> */
-static struct of_i8_i8 sd_announce(uint8_t *a0)
-{
-    KELIFANDRO_ROOM uint8_t r1[8];
-    host_ask(r1, a0, 55u, 0u);
-    bool v0 = *r1 != 0u;
-    uint8_t r6_0_0 = (uint8_t)(v0 && (r1[1] != 0u));
-    uint8_t r6_4_0 = (uint8_t)(v0 != true);
-    struct of_i8_i8 r18_fca_0_insert = (struct of_i8_i8){r6_0_0, 0};
-    struct of_i8_i8 r18_fca_1_insert = (struct of_i8_i8){r18_fca_0_insert.f0, r6_4_0};
-    return r18_fca_1_insert;
-}
-
-/* mmc_identify::sd::inquire::<#1bed76fd314cf36e> */
-static void sd_inquire(uint8_t *a0, uint8_t *a1, bool a2)
-{
-    KELIFANDRO_ROOM uint8_t r0[12];
-    KELIFANDRO_ROOM uint8_t r1[8];
-    host_ask_ocr(r1, a1, 0u, a2 ? UINT32_C(0x40300000) : UINT32_C(0x300000));
-    judging_inquired(r0, r1);
-    *a0 = *r0;
-    a0[1] = r0[1];
-    store32(a0 + 4, (uint32_t)r0[4]);
-    store32(a0 + 8, load32_aligned(r0 + 8));
-    return;
-}
-
-/* mmc_bus::host::ask_ocr::<#1bed76fd314cf36e> */
-static void host_ask_ocr(uint8_t *a0, uint8_t *a1, uint8_t a2, uint32_t a3)
-{
-    KELIFANDRO_ROOM uint8_t r4[18];
-    KELIFANDRO_ROOM uint8_t r6[6];
-    uint32_t r2_8_0;
-    uint8_t r2_4_0;
-    uint8_t r2_0_0;
-    frame_framed(r6, (uint8_t)(((a2 & 1u) != 0) ? 65u : 105u), a3);
-    HostBusBus_command(r4, a1, r6, 1u);
-    uint8_t v0 = *r4;
-    switch (v0) {
-    default: {
-        trap();
-        return;
-    }
-    case 0u: {
-        r2_8_0 = 0u; /* any */
-        r2_4_0 = v0;
-        r2_0_0 = 1u;
-        goto mmc_bus_host_ocr_in_exit;
-    }
-    case 1u: {
-        bool or_cond_not = (r4[1] != 63u) || (r4[6] != 255u);
-        r2_8_0 = or_cond_not ? 0u : bswap32(load32(r4 + 2));
-        r2_4_0 = 1u;
-        r2_0_0 = (uint8_t)or_cond_not;
-        goto mmc_bus_host_ocr_in_exit;
-    }
-    case 2u: {
-        r2_8_0 = 0u; /* any */
-        r2_4_0 = 1u;
-        r2_0_0 = 1u;
-        goto mmc_bus_host_ocr_in_exit;
-    }
-    }
-mmc_bus_host_ocr_in_exit: {
-    *a0 = r2_0_0;
-    a0[1] = r2_4_0;
-    store32(a0 + 4, r2_8_0);
-    return;
-}
-}
-
-/* mmc_identify::judging::inquired */
-static void judging_inquired(uint8_t *a0, uint8_t *a1)
-{
-    uint64_t sink25;
-    uint32_t sink;
-    uint32_t v1 = load32(a1 + 4);
-    if (*a1 != 0u) {
-        *a0 = 1u;
-        a0[1] = 0u;
-        sink25 = 4u;
-        sink = 0u;
-        goto common_ret;
-    }
-    if ((v1 & UINT32_C(0x80ffffff)) == 0u) {
-        *a0 = 0u;
-        sink25 = 4u;
-        sink = 0u;
-        goto common_ret;
-    }
-    if (!((v1 & UINT32_C(0x300000)) == UINT32_C(0x300000))) {
-        *a0 = 1u;
-        a0[1] = 1u;
-        sink25 = 4u;
-        sink = 0u;
-        goto common_ret;
-    }
-    *a0 = 0u;
-    store32(a0 + 4, v1 >> 31u);
-    sink25 = 8u;
-    sink = v1;
-common_ret: {
-    store32(at(a0, sink25), sink);
-    return;
-}
-}
-
-/* mmc_bus::host::ask_register::<#1bed76fd314cf36e> */
-static void host_ask_register(uint8_t *a0, uint8_t *a1, uint8_t a2, uint32_t a3)
-{
-    KELIFANDRO_ROOM uint8_t r2[18];
-    KELIFANDRO_ROOM uint8_t room[16];
-    uint8_t *const r7_6_0 = room;
-    uint8_t *const r1 = room;
-    uint8_t *const r4 = room;
-    uint8_t r7_6_4_0;
-    uint8_t r5_0_04;
-    uint8_t r7_3_0;
-    uint8_t r7_6_4_1;
-    uint8_t r2_4_0;
-    uint8_t r2_0_0;
-    frame_framed(r4, (uint8_t)(a2 | 64u), a3);
-    HostBusBus_command(r2, a1, r4, (uint8_t)(((uint8_t)(a2 + 253u) < 6u) ? 1u : 2u));
-    uint8_t v0 = *r2;
-    uint8_t r1_4_1 = r2[2];
-    uint8_t r1_7_1 = r2[17];
-    if (v0 != 2u) {
-        r7_6_4_1 = 0u; /* any */
-        r2_4_0 = v0;
-        r2_0_0 = 1u;
-        goto mmc_bus_host_register_in_exit;
-    }
-    uint8_t r1_2_1 = r2[1];
-    if ((r1_2_1 != 63u) || ((uint8_t)(r1_7_1 & 1u) == 0u)) {
-        r7_6_4_0 = 0u; /* any */
-        r5_0_04 = 1u;
-        r7_3_0 = 1u;
-        goto core_result_Result_map_err_9a6c9fbc5e69f3ca_exit;
-    }
-    *r1 = r1_4_1;
-    memcpy(r1 + 1, r2 + 3, 14);
-    r1[15] = r1_7_1;
-    bool r44 = register_response_check_fits(r1);
-    if (!r44) {
-        r7_6_4_0 = 0u; /* any */
-        r5_0_04 = 1u;
-        r7_3_0 = 1u;
-        goto core_result_Result_map_err_9a6c9fbc5e69f3ca_exit;
-    }
-    memcpy(r7_6_0, r2 + 3, 14);
-    r7_6_4_0 = r1_7_1;
-    r5_0_04 = 0u;
-    r7_3_0 = r1_4_1;
-core_result_Result_map_err_9a6c9fbc5e69f3ca_exit: {
-    r7_6_4_1 = r7_6_4_0;
-    r2_4_0 = r7_3_0;
-    r2_0_0 = r5_0_04;
-}
-mmc_bus_host_register_in_exit: {
-    *a0 = r2_0_0;
-    a0[1] = r2_4_0;
-    memcpy(a0 + 2, r7_6_0, 14);
-    a0[16] = r7_6_4_1;
-    return;
-}
-}
-
-/* mmc_switch::sd::announce::<#1bed76fd314cf36e> */
-static uint8_t sd_announce_2(uint8_t *a0, uint16_t a1)
-{
-    KELIFANDRO_ROOM uint8_t r2[8];
-    host_ask(r2, a0, 55u, (uint32_t)a1 << 16u);
-    return (uint8_t)((*r2 != 0u) || ((load32_aligned(r2 + 4) & UINT32_C(0xfd39a000)) != 0u));
-}
-
-/* mmc_bus::data::receive::<#1bed76fd314cf36e> */
-static uint8_t data_receive(uint8_t *a0, uint8_t *a1, uint64_t a2)
-{
-    KELIFANDRO_ROOM uint8_t room[36];
-    uint8_t *const r12 = room;
-    uint8_t *const r9 = room;
-    KELIFANDRO_ROOM uint8_t r13[36];
-    uint8_t r5_0_0;
-    uint8_t r0_0_0;
-    if (a0[144] != a0[88]) {
-        goto then_1;
-    }
-    if (a0[145] != a0[89]) {
-        goto then_1;
-    }
-    if (!((a0[152] == 1u) && (a2 == (uint64_t)load16(a0 + 154)))) {
-        goto then_1;
-    }
-    if (*a0 != 0u) {
-        uint8_t r36 = SdhciHost_read_block(a0 + 4, a1, a2);
-        r5_0_0 = r36;
-        goto c_host_way_WayHost_read_block_b4302b8119c90b07_exit;
-    }
-    uint64_t r25 = io_read_full(load32_aligned(a0 + 4), a1, a2);
-    r5_0_0 = (uint8_t)((r25 == a2) ? 0u : (uint8_t)((r25 == 0u) ? 2u : 1u));
-    goto c_host_way_WayHost_read_block_b4302b8119c90b07_exit;
-then_1: {
-    a0[180] = 1u;
-    r0_0_0 = 2u;
-    goto mmc_bus_host_read_block_1bed76fd314cf36e_exit;
-}
-c_host_way_WayHost_read_block_b4302b8119c90b07_exit: {
-    memcpy(r13, a0 + 144, 36);
-    HostState_block_passed(r12, r13, r5_0_0 == 0u);
-    memcpy(a0 + 144, r12, 36);
-    r0_0_0 = r5_0_0;
-}
-mmc_bus_host_read_block_1bed76fd314cf36e_exit: {
-    *r9 = 1u;
-    store64_aligned(r9 + 8, a2);
-    r9[16] = r0_0_0;
-    Wire_note(a0 + 88, r9);
-    return (uint8_t)(r0_0_0 != 0u);
-}
-}
-
-/* mmc_sdhci::sdhci::SdhciHost::read_block::<#d002fd087b3dc1c2> */
-static uint8_t SdhciHost_read_block(uint8_t *a0, uint8_t *a1, uint64_t a2)
-{
-    KELIFANDRO_ROOM uint8_t room[36];
-    uint8_t *const r3 = room;
-    uint8_t *const r11 = room;
-    uint8_t *const r9 = room;
-    KELIFANDRO_ROOM uint8_t r10[36];
-    uint16_t r1_2_1_1;
-    bool r10_0_0_shrunk;
-    uint8_t r0_0_0_2;
-    uint8_t r0_0_0;
-    uint8_t r16 = a0[40];
-    uint16_t v0 = load16(a0 + 42);
-    uint16_t v1 = load16(a0 + 44);
-    watching_watch(r11, a0, 0u, 0u);
-    if (*r11 != 1u) {
-        command_reset_data(a0);
-        r0_0_0 = 2u;
-        goto mmc_sdhci_data_read_block_d002fd087b3dc1c2_exit;
-    }
-    uint32_t r10_21_0 = load32_aligned(r11 + 8);
-    if ((uint32_t)(r10_21_0 & 32768u) == 0u) {
-        io_read_full(load32_aligned(a0), a1, a2);
-        switch (r16) {
-        default: {
-            trap();
-            return 0;
-        }
-        case 0u: {
-            r10_0_0_shrunk = false;
-            goto mmc_sdhci_following_following_of_exit;
-        }
-        case 1u: {
-            r1_2_1_1 = v1;
-            goto join_5_sink_split;
-        }
-        case 2u: {
-            r1_2_1_1 = v0;
-            goto join_5_sink_split;
-        }
-        }
-    }
-    command_reset_data(a0);
-    r0_0_0 = (uint8_t)(((r10_21_0 & UINT32_C(0x600000)) == 0u) ? 2u : 1u);
-    goto mmc_sdhci_data_read_block_d002fd087b3dc1c2_exit;
-join_5_sink_split: {
-    r10_0_0_shrunk = r1_2_1_1 != 1u;
-}
-mmc_sdhci_following_following_of_exit: {
-    watching_watch(r3, a0, 1u, (uint8_t)r10_0_0_shrunk);
-    if (*r3 != 1u) {
-        command_reset_data(a0);
-        r0_0_0_2 = 2u;
-        goto mmc_sdhci_data_see_good_d002fd087b3dc1c2_exit;
-    }
-    uint32_t r2_21_0 = load32_aligned(r3 + 8);
-    if ((uint32_t)(r2_21_0 & 32768u) == 0u) {
-        r0_0_0_2 = 0u;
-        goto mmc_sdhci_data_see_good_d002fd087b3dc1c2_exit;
-    }
-    command_reset_data(a0);
-    r0_0_0_2 = (uint8_t)(((r2_21_0 & UINT32_C(0x600000)) == 0u) ? 2u : 1u);
-}
-mmc_sdhci_data_see_good_d002fd087b3dc1c2_exit: {
-    r0_0_0 = r0_0_0_2;
-}
-mmc_sdhci_data_read_block_d002fd087b3dc1c2_exit: {
-    memcpy(r10, a0 + 32, 36);
-    HostState_block_passed(r9, r10, r0_0_0 == 0u);
-    memcpy(a0 + 32, r9, 36);
-    return r0_0_0;
-}
-}
-
-/* mmc_sdhci::watching::watch::<#d002fd087b3dc1c2> */
-static void watching_watch(uint8_t *a0, uint8_t *a1, uint8_t a2, uint8_t a3)
-{
-    uint32_t v;
-    uint8_t r6_0_in_off0_in_v;
-    bool v0;
-    uint32_t r3_016;
-    uint32_t r6_6;
-    bool r6_0_in_off0_lcssa;
-    bool switch_2 = a2 < 2u;
-    v = switch_2 ? 2980u : 10980u;
-    r6_0_in_off0_in_v = (uint8_t)(switch_2 ? 8u : 4u);
-    v0 = a3 == 0u;
-    r3_016 = 0u;
-join_5: {
-    uint8_t r14 = StoryRegistersRegisters_read8(a1, 37u);
-    bool r6_0_in_off0 = (uint8_t)(r14 & r6_0_in_off0_in_v) != 0u;
-    r6_6 = Stream_read_register(a1, 4u, 48u);
-    if (!((uint32_t)(r6_6 & 32768u) == 0u)) {
-        r6_0_in_off0_lcssa = r6_0_in_off0;
-        goto then_6;
-    }
-    switch (a2) {
-    default: {
-        trap();
-        return;
-    }
-    case 0u:
-    case 2u: {
-        if (r6_0_in_off0) {
-            r6_0_in_off0_lcssa = true;
-            goto then_6;
-        }
-        goto join_8;
-    }
-    case 1u:
-    case 3u: {
-        if (v0 ? ((uint32_t)(r6_6 & 2u) != 0u) : r6_0_in_off0) {
-            r6_0_in_off0_lcssa = r6_0_in_off0;
-            goto then_6;
-        }
-        goto join_8;
-    }
-    }
-}
-join_8: {
-    Stream_pause(a1, (r3_016 < 1000u) ? 1u : 50u);
-    uint32_t r49 = r3_016 + 1u;
-    if (r49 != v) {
-        r3_016 = r49;
-        goto join_5;
-    }
-    store32(a0, 0u);
-    goto common_ret;
-}
-then_6: {
-    store32(a0, 1u);
-    a0[4] = (uint8_t)r6_0_in_off0_lcssa;
-    store32(a0 + 8, r6_6);
-}
-common_ret: {
-    return;
-}
-}
-
-/* mmc_host::told::HostState::block_passed */
-static void HostState_block_passed(uint8_t *a0, uint8_t *a1, bool a2)
-{
-    uint8_t r1_2_0;
-    uint8_t r1_3_0;
-    uint16_t r1_42_0;
-    uint8_t r1_83_0;
-    uint32_t r1_94_0;
-    uint32_t r1_10_0;
-    uint32_t r1_11_0;
-    uint32_t r1_12_0;
-    uint8_t r4_0_0;
-    uint16_t r4_5_0;
-    uint16_t r4_3_2_0;
-    r1_2_0 = a1[3];
-    r1_3_0 = a1[4];
-    r1_42_0 = load16(a1 + 6);
-    uint16_t r1_6_1_0 = load16(a1 + 10);
-    uint16_t v0 = load16(a1 + 12);
-    r1_83_0 = a1[16];
-    r1_94_0 = load32(a1 + 20);
-    r1_10_0 = load32(a1 + 24);
-    r1_11_0 = load32(a1 + 28);
-    r1_12_0 = load32(a1 + 32);
-    if (!a2) {
-        r4_0_0 = 0u;
-        r4_5_0 = 0u; /* any */
-        r4_3_2_0 = 0u; /* any */
-        goto join_3;
-    }
-    uint8_t r1_5_0 = a1[8];
-    switch (r1_5_0) {
-    default: {
-        trap();
-        return;
-    }
-    case 1u: {
-        if (!(v0 > 1u)) {
-            r4_0_0 = 0u;
-            r4_5_0 = 0u; /* any */
-            r4_3_2_0 = 0u; /* any */
-            goto join_3;
-        }
-        r4_0_0 = 1u;
-        r4_5_0 = (uint16_t)(v0 + 65535u);
-        r4_3_2_0 = r1_6_1_0;
-        goto join_3;
-    }
-    case 2u: {
-        r4_0_0 = (uint8_t)((r1_6_1_0 > 1u) ? 2u : 0u);
-        r4_5_0 = 0u; /* any */
-        r4_3_2_0 = (uint16_t)(r1_6_1_0 + 65535u);
-        goto join_3;
-    }
-    case 0u: {
-        r4_0_0 = r1_5_0;
-        r4_5_0 = 0u; /* any */
-        r4_3_2_0 = 0u; /* any */
-        goto join_3;
-    }
-    }
-join_3: {
-    {
-        uint8_t moved[3];
-        memcpy(moved, a1, 3);
-        memcpy(a0, moved, 3);
-    }
-    a0[3] = (uint8_t)(r1_2_0 & 1u);
-    a0[4] = (uint8_t)(r1_3_0 & 1u);
-    store16(a0 + 6, r1_42_0);
-    store16(a0 + 8, (uint16_t)r4_0_0);
-    store16(a0 + 10, r4_3_2_0);
-    store16(a0 + 12, r4_5_0);
-    store32(a0 + 16, (uint32_t)r1_83_0);
-    store32(a0 + 20, r1_94_0);
-    store32(a0 + 24, r1_10_0);
-    store32(a0 + 28, r1_11_0);
-    store32(a0 + 32, r1_12_0);
-    return;
-}
-}
-
-/* mmc_switch::sd::switch_func::<#1bed76fd314cf36e> */
-static void sd_switch_func(uint8_t *a0, uint8_t *a1, uint32_t a2)
-{
-    KELIFANDRO_ROOM uint8_t room[64];
-    uint8_t *const r2 = room;
-    uint8_t *const r7 = room;
-    uint8_t r0_3_0_17;
-    host_ask(r7, a1, 6u, a2);
-    if (*r7 != 0u) {
-        r0_3_0_17 = 0u;
-        goto arm_2;
-    }
-    if (!((load32_aligned(r7 + 4) & UINT32_C(0xfd39a000)) == 0u)) {
-        r0_3_0_17 = 2u;
-        goto arm_2;
-    }
-    memset(r2, 0u, 64);
-    uint8_t r41 = data_receive(a1, r2, 64u);
-    if (r41 != 0u) {
-        *a0 = 1u;
-        a0[1] = 1u;
-        goto common_ret;
-    }
-    uint8_t r13_0_0 = *r2;
-    *a0 = 0u;
-    a0[1] = r13_0_0;
-    memcpy(a0 + 2, r2 + 1, 63);
-    goto common_ret;
-arm_2: {
-    *a0 = 1u;
-    a0[1] = r0_3_0_17;
-}
-common_ret: {
-    return;
-}
-}
-
-/* mmc_regs::csd::Csd::sectors */
-static uint64_t Csd_sectors(uint8_t *a0)
-{
-    uint64_t r4_0;
-    u128 r7_0_0 = load128(a0 + 16);
-    switch (*a0) {
-    default: {
-        trap();
-        return 0;
-    }
-    case 0u: {
-        uint64_t r185 = (((uint64_t)((uint64_t)u128_lshr(r7_0_0, 62u).lo & 4095u) + 1u) << (((uint64_t)((uint64_t)((uint64_t)r7_0_0.lo >> 47u) & 7u) + 2u) & 63u)) << (((uint64_t)u128_lshr(r7_0_0, 80u).lo & 15u) & 63u);
-        r4_0 = r185 >> 9u;
-        goto join_5;
-    }
-    case 1u: {
-        r4_0 = ((uint64_t)u128_lshr(r7_0_0, 38u).lo & UINT64_C(0xfffffc00)) + 1024u;
-        goto join_5;
-    }
-    case 2u: {
-        uint64_t r185_19 = (((uint64_t)((uint64_t)u128_lshr(r7_0_0, 62u).lo & 4095u) + 1u) << (((uint64_t)((uint64_t)((uint64_t)r7_0_0.lo >> 47u) & 7u) + 2u) & 63u)) << (((uint64_t)u128_lshr(r7_0_0, 80u).lo & 15u) & 63u);
-        r4_0 = r185_19 >> 9u;
-        goto join_5;
-    }
-    }
-join_5: {
-    return r4_0;
-}
-}
-
-/* mmc_switch::mmc::switch::<#1bed76fd314cf36e> */
-static struct of_i8_i8 mmc_switch(uint8_t *a0, uint16_t a1, uint32_t a2)
-{
-    KELIFANDRO_ROOM uint8_t room[16];
-    uint8_t *const r6 = room;
-    uint8_t *const r2 = room;
-    uint64_t r24;
-    uint64_t r2_05;
-    uint8_t r0_0_0_2;
-    uint8_t r0_4_0_pn;
-    uint8_t r0_0_0;
-    uint8_t r0_4_0_pn_pn;
-    host_ask(r2, a0, 6u, a2);
-    bool v1 = *r2 == 0u;
-    uint32_t v2 = load32_aligned(r2 + 4);
-    if (!(v1 && ((v2 & UINT32_C(0xfd39a080)) == 0u))) {
-        r0_0_0 = 1u;
-        r0_4_0_pn_pn = (uint8_t)(v1 ? 2u : 0u);
-        goto return_5;
-    }
-    wait_count_polls(r6, a0);
-    if (*r6 != 0u) {
-        r0_0_0_2 = 1u;
-        r0_4_0_pn = r6[1];
-        goto mmc_bus_status_wait_and_confirm_1bed76fd314cf36e_exit;
-    }
-    uint64_t r1_4_8 = load64_aligned(r6 + 8);
-    r24 = 16u - r1_4_8;
-    if (r1_4_8 == 16u) {
-        r0_0_0_2 = 1u;
-        r0_4_0_pn = 2u;
-        goto mmc_bus_status_wait_and_confirm_1bed76fd314cf36e_exit;
-    }
-    r2_05 = 0u;
-join_5: {
-    struct of_i8_i8 r19 = status_ask_closing(a0, 1u, a1);
-    uint8_t r28 = r19.f1;
-    if (r19.f0 != 0u) {
-        r0_0_0_2 = 1u;
-        r0_4_0_pn = r28;
-        goto mmc_bus_status_wait_and_confirm_1bed76fd314cf36e_exit;
-    }
-    if (r28 == 0u) {
-        r0_0_0_2 = 0u;
-        r0_4_0_pn = 0u; /* any */
-        goto mmc_bus_status_wait_and_confirm_1bed76fd314cf36e_exit;
-    }
-    uint64_t r41 = r2_05 + 1u;
-    if (r41 == r24) {
-        r0_0_0_2 = 1u;
-        r0_4_0_pn = 2u;
-        goto mmc_bus_status_wait_and_confirm_1bed76fd314cf36e_exit;
-    }
-    r2_05 = r41;
-    goto join_5;
-}
-mmc_bus_status_wait_and_confirm_1bed76fd314cf36e_exit: {
-    r0_0_0 = r0_0_0_2;
-    r0_4_0_pn_pn = r0_4_0_pn;
-}
-return_5: {
-    struct of_i8_i8 r33_fca_0_insert = (struct of_i8_i8){r0_0_0, 0};
-    struct of_i8_i8 r33_fca_1_insert = (struct of_i8_i8){r33_fca_0_insert.f0, r0_4_0_pn_pn};
-    return r33_fca_1_insert;
 }
 }
 
@@ -6960,30 +7583,6 @@ return_4: {
     struct of_i8_i64 r51_fca_0_insert = (struct of_i8_i64){r0_0_0, 0};
     struct of_i8_i64 r51_fca_1_insert = (struct of_i8_i64){r51_fca_0_insert.f0, r0_3_2_0};
     return r51_fca_1_insert;
-}
-}
-
-/* c_host::registers::CRegisters::give_back */
-static void CRegisters_give_back(uint8_t *a0)
-{
-    KELIFANDRO_ROOM uint8_t r3[6];
-    if (a0[22] != 1u) {
-        goto join_4;
-    }
-    uint8_t r0_0_0 = a0[24];
-    uint8_t r0_2_0 = a0[25];
-    uint8_t r0_3_0 = a0[26];
-    uint16_t r0_41_0 = load16(a0 + 28);
-    *r3 = 17u;
-    r3[1] = (uint8_t)(r0_0_0 & 1u);
-    r3[2] = r0_2_0;
-    r3[3] = r0_3_0;
-    r3[4] = (uint8_t)r0_41_0;
-    r3[5] = (uint8_t)(uint16_t)((uint32_t)r0_41_0 >> 8u);
-    io_write_all(load32_aligned(a0), r3, 6u);
-    store16_aligned(a0 + 22, 0u);
-join_4: {
-    return;
 }
 }
 
@@ -7861,35 +8460,6 @@ mmc_recovery_healed_Healed_met_exit: {
 }
 }
 
-/* kelifandro::hosts::end::<#fb070baa9c134c3e> */
-static void hosts_end(uint8_t *a0, bool a2)
-{
-    KELIFANDRO_ROOM uint8_t r7[84];
-    if (*a0 == 0u) {
-        goto join_4;
-    }
-    memcpy(r7, a0 + 4, 84);
-    if (!(a2 || (r7[40] != 0u))) {
-        goto mmc_sdhci_sdhci_Sdhci_end_d002fd087b3dc1c2_exit;
-    }
-    command_lose_all(r7);
-mmc_sdhci_sdhci_Sdhci_end_d002fd087b3dc1c2_exit: {
-    store16_aligned(r7 + 40, 0u);
-    CRegisters_give_back(r7);
-}
-join_4: {
-    return;
-}
-}
-
-/* mmc_sdhci::command::lose_all::<#d002fd087b3dc1c2> */
-static void command_lose_all(uint8_t *a0)
-{
-    command_reset_command(a0);
-    command_reset_data(a0);
-    return;
-}
-
 /* kelifandro::longs::may_begin */
 static struct of_i8_i32 longs_may_begin(uint8_t *a0, uint8_t *a1, uint8_t *a2)
 {
@@ -7918,569 +8488,6 @@ return_5: {
     struct of_i8_i32 r45_fca_0_insert = (struct of_i8_i32){r0_0_0, 0};
     struct of_i8_i32 r45_fca_1_insert = (struct of_i8_i32){r45_fca_0_insert.f0, r0_3_0};
     return r45_fca_1_insert;
-}
-}
-
-/* kelifandro::hosts::switch_on */
-static void hosts_switch_on(uint8_t *a0)
-{
-    KELIFANDRO_ROOM uint8_t r2[36];
-    given_given_by(r2, a0);
-    if (*r2 != 0u) {
-        goto join_4;
-    }
-    CFunctions_set_power(r2 + 4, true);
-join_4: {
-    return;
-}
-}
-
-/* kelifandro::opening::open_once::<#fb070baa9c134c3e> */
-static uint32_t opening_open_once(uint8_t *a0, uint8_t *a1, uint8_t *a2)
-{
-    KELIFANDRO_ROOM uint8_t room[208];
-    uint8_t *const r4 = room;
-    uint8_t *const r2_2 = room;
-    uint8_t *const r0 = room;
-    uint8_t *const r3_2 = room;
-    uint8_t *const r5 = room;
-    uint8_t *const r9 = room;
-    uint8_t *const r11 = room;
-    uint8_t *const r8_41 = room;
-    uint8_t *const r3 = room + 40;
-    uint8_t *const r25_6_8_0 = room + 40;
-    uint8_t *const r16 = room + 56;
-    uint8_t *const r25_6_4 = room + 56;
-    uint8_t *const r1_2 = room + 160;
-    uint8_t *const r1_7 = room + 176;
-    uint8_t *const r4_8_4 = room + 176;
-    uint8_t *const r4_8_9 = room + 192;
-    KELIFANDRO_ROOM uint8_t r2[184];
-    KELIFANDRO_ROOM uint8_t room_2[104];
-    uint8_t *const r1_4 = room_2;
-    uint8_t *const r7_3 = room_2;
-    KELIFANDRO_ROOM uint8_t r4_8_6[97];
-    uint8_t r1_3_0;
-    uint32_t r1_0_0;
-    uint8_t r1_2_0;
-    uint8_t r3_919_0;
-    uint8_t r3_10_0;
-    uint16_t r3_11_0;
-    bool r7;
-    uint32_t r6;
-    uint8_t r40;
-    uint32_t r8;
-    uint32_t r3_0;
-    uint32_t r1_07;
-    uint32_t r12_3_2_0_ph;
-    uint8_t r0_0_0_pn_speculated;
-    uint8_t r0_2_0_pn_speculated;
-    uint16_t r12_6_8_0;
-    uint8_t r12_6_7_0;
-    uint8_t r12_6_6_0;
-    uint8_t r12_6_9_18_0;
-    uint8_t r12_6_9_19_0;
-    uint32_t r12_6_9_21_0;
-    uint8_t r12_6_9_22_0;
-    uint32_t r12_6_9_24_0;
-    uint32_t r12_3_2_0;
-    uint8_t r4_12_03157;
-    uint8_t r4_16_03255;
-    uint8_t r4_20_03353;
-    uint8_t r4_8_0_03450;
-    u128 r4_8_5_03547;
-    bool r4_8_8_038_off046;
-    uint8_t r4_12_03156;
-    uint8_t r4_16_03254;
-    uint8_t r4_20_03352;
-    uint8_t r4_8_0_03451;
-    u128 r4_8_5_03548;
-    bool r4_8_8_038_off045;
-    bool r2_0_off0;
-    uint8_t r4_12_031565980;
-    uint8_t r4_16_032546179;
-    uint8_t r4_20_033526378;
-    uint8_t r4_8_0_034516477;
-    u128 r4_8_5_035486676;
-    bool r2_0_off0_6875;
-    bool r5_0_shrunk;
-    bool r2_0_off0_67;
-    uint8_t r4_8_0_0345165;
-    uint8_t r4_20_0335262;
-    uint8_t r4_16_0325460;
-    uint8_t r4_12_0315658;
-    u128 r4_8_5_03549;
-    bool r6_0_off0;
-    uint32_t v;
-    uint32_t r6_0;
-    uint32_t r7_0;
-    given_given_by(r11, a0);
-    r1_3_0 = r11[9];
-    r1_0_0 = load32_aligned(r11 + 4);
-    r1_2_0 = r11[8];
-    if (*r11 == 0u) {
-        memcpy(r3 + 6, r11 + 10, 6);
-        store32_aligned(r3, r1_0_0);
-        r3[4] = r1_2_0;
-        r3[5] = r1_3_0;
-        *r16 = 0u;
-        r16[1] = 0u;
-        r16[2] = 1u;
-        CFunctionsHost_set_ios(r3, r16);
-        memcpy(r25_6_4, r11 + 10, 6);
-        r0_0_0_pn_speculated = r1_2_0;
-        r0_2_0_pn_speculated = r1_3_0;
-        r12_6_8_0 = 0u; /* any */
-        r12_6_7_0 = r1_3_0;
-        r12_6_6_0 = r1_2_0;
-        r12_6_9_18_0 = 0u; /* any */
-        r12_6_9_19_0 = 0u; /* any */
-        r12_6_9_21_0 = 0u; /* any */
-        r12_6_9_22_0 = 0u; /* any */
-        r12_6_9_24_0 = 0u; /* any */
-        r12_3_2_0 = 0u;
-        goto arm_1;
-    }
-    r3_919_0 = r11[16];
-    r3_10_0 = r11[17];
-    r3_11_0 = load16_aligned(r11 + 18);
-    r7 = a0[11] == 1u;
-    command_lose_all(r11 + 4);
-    StoryRegistersRegisters_write8(r11 + 4, 41u, 0u);
-    Stream_pause(r11 + 4, 10000u);
-    StoryRegistersRegisters_write8(r11 + 4, 47u, 1u);
-    settling_settle_reset(r11 + 4);
-    Stream_write_register(r11 + 4, 4u, 52u, UINT32_C(0x7f0033));
-    Stream_write_register(r11 + 4, 4u, 56u, 0u);
-    r6 = CRegistersRegisters_read32(r11 + 4, 64u);
-    r40 = StoryRegistersRegisters_read8(r11 + 4, 254u);
-    r8 = (uint32_t)(r6 >> 8u) & 255u;
-    r3_0 = ((r40 < 2u) && (r8 > 63u)) ? 0u : r8;
-    if ((r6 & UINT32_C(0x1000000)) == 0u) {
-        r12_3_2_0_ph = UINT32_C(0xffffffea);
-        goto arm_2;
-    }
-    if (r3_0 == 0u) {
-        r12_3_2_0_ph = UINT32_C(0xffffffe9);
-        goto arm_2;
-    }
-    r1_07 = 0u;
-join_5: {
-    uint32_t r6_2 = CRegistersRegisters_read32(r11 + 4, 36u);
-    if ((r6_2 & UINT32_C(0x20000)) == 0u) {
-        Stream_pause(r11 + 4, 100u);
-        uint32_t r37 = r1_07 + 1u;
-        if (r37 == 1000u) {
-            r12_3_2_0_ph = UINT32_C(0xffffffe8);
-            goto arm_2;
-        }
-        r1_07 = r37;
-        goto join_5;
-    }
-    if ((r6_2 & UINT32_C(0x10000)) == 0u) {
-        r12_3_2_0_ph = UINT32_C(0xffffffe8);
-        goto arm_2;
-    }
-    StoryRegistersRegisters_write8(r11 + 4, 41u, 15u);
-    StoryRegistersRegisters_write8(r11 + 4, 40u, 0u);
-    clock_set_clock(r11 + 4, r3_0, r40, UINT32_C(0x61a80));
-    Stream_pause(r11 + 4, (UINT32_C(0x24f6c) / r8) + 1001u);
-    uint8_t spec_select = (uint8_t)(r7 ? 0u : (uint8_t)(((r6 & UINT32_C(0x40000)) == 0u) ? 1u : 2u));
-    uint8_t r7_0_0 = (uint8_t)((uint8_t)(r6 >> 21u) & 1u);
-    memcpy(r25_6_4, r11 + 10, 6);
-    memcpy(r25_6_8_0, r11 + 20, 16);
-    r0_0_0_pn_speculated = spec_select;
-    r0_2_0_pn_speculated = r7_0_0;
-    r12_6_8_0 = r3_11_0;
-    r12_6_7_0 = r3_10_0;
-    r12_6_6_0 = r3_919_0;
-    r12_6_9_18_0 = spec_select;
-    r12_6_9_19_0 = r7_0_0;
-    r12_6_9_21_0 = r3_0;
-    r12_6_9_22_0 = r40;
-    r12_6_9_24_0 = r6;
-    r12_3_2_0 = 1u;
-    goto arm_1;
-}
-arm_2: {
-    *a1 = 0u;
-    memset(a2, 0u, 64);
-    r7_0 = r12_3_2_0_ph;
-    goto join_4;
-}
-arm_1: {
-    memset(r8_41 + 4, 0u, 13);
-    store32_aligned(r2, r12_3_2_0);
-    store32_aligned(r2 + 4, r1_0_0);
-    r2[8] = r1_2_0;
-    r2[9] = r1_3_0;
-    memcpy(r2 + 10, r25_6_4, 6);
-    r2[16] = r12_6_6_0;
-    r2[17] = r12_6_7_0;
-    store16_aligned(r2 + 18, r12_6_8_0);
-    memcpy(r2 + 20, r25_6_8_0, 16);
-    r2[36] = 0u;
-    r2[37] = 0u;
-    r2[38] = 1u;
-    r2[39] = 1u;
-    r2[40] = 0u;
-    store16_aligned(r2 + 42, 0u);
-    store16_aligned(r2 + 44, 0u);
-    store32_aligned(r2 + 52, 0u);
-    store32_aligned(r2 + 60, 0u);
-    store32_aligned(r2 + 64, 0u);
-    store32_aligned(r2 + 68, 0u);
-    r2[72] = 1u;
-    r2[73] = r12_6_9_18_0;
-    r2[74] = r12_6_9_19_0;
-    store32_aligned(r2 + 76, r12_6_9_21_0);
-    r2[80] = r12_6_9_22_0;
-    store32_aligned(r2 + 84, r12_6_9_24_0);
-    r2[88] = 0u;
-    r2[89] = 0u;
-    r2[90] = r0_0_0_pn_speculated;
-    r2[91] = r0_2_0_pn_speculated;
-    store64_aligned(r2 + 96, 0u);
-    store64_aligned(r2 + 136, 0u);
-    r2[144] = 0u;
-    r2[145] = 0u;
-    r2[146] = 1u;
-    r2[147] = 1u;
-    r2[148] = 0u;
-    store16_aligned(r2 + 150, 0u);
-    store16_aligned(r2 + 152, 0u);
-    store32_aligned(r2 + 160, 0u);
-    memcpy(r2 + 164, r8_41, 17);
-    *a1 = 0u;
-    memset(a2, 0u, 64);
-    initialization_initialize(r3_2, r2);
-    if (*r3_2 == 0u) {
-        uint8_t r1_2_144 = r3_2[160];
-        uint8_t r1_4_145 = r3_2[161];
-        uint8_t r1_6_146 = r3_2[162];
-        uint8_t r4_8_0_0_12 = r3_2[16];
-        memcpy(r4_8_4, r3_2 + 17, 15);
-        u128 r4_8_5_0_14 = load128_aligned(r3_2 + 32);
-        memcpy(r4_8_6, r3_2 + 48, 97);
-        uint8_t r4_8_7_0_16 = r3_2[145];
-        uint8_t r4_8_8_0_18 = r3_2[146];
-        memcpy(r4_8_9, r3_2 + 147, 13);
-        bool extract_t44 = (r4_8_8_0_18 & 1u) != 0;
-        memcpy(r1_2, r4_8_4, 15);
-        memcpy(r1_4, r4_8_6, 97);
-        memcpy(r1_7, r4_8_9, 13);
-        if ((r4_8_7_0_16 & 1u) != 0) {
-            r4_12_03157 = r1_2_144;
-            r4_16_03255 = r1_4_145;
-            r4_20_03353 = r1_6_146;
-            r4_8_0_03450 = r4_8_0_0_12;
-            r4_8_5_03547 = r4_8_5_0_14;
-            r4_8_8_038_off046 = extract_t44;
-            goto then_1;
-        }
-        r4_12_03156 = r1_2_144;
-        r4_16_03254 = r1_4_145;
-        r4_20_03352 = r1_6_146;
-        r4_8_0_03451 = r4_8_0_0_12;
-        r4_8_5_03548 = r4_8_5_0_14;
-        r4_8_8_038_off045 = extract_t44;
-        r2_0_off0 = false;
-        goto join_3;
-    }
-    initialization_initialize(r5, r2);
-    if (*r5 == 0u) {
-        uint8_t r2_2_144 = r5[160];
-        uint8_t r2_4_145 = r5[161];
-        uint8_t r2_6_146 = r5[162];
-        uint8_t r4_8_0_0_11 = r5[16];
-        memcpy(r4_8_4, r5 + 17, 15);
-        u128 r4_8_5_0_13 = load128_aligned(r5 + 32);
-        memcpy(r4_8_6, r5 + 48, 97);
-        uint8_t r4_8_7_0_15 = r5[145];
-        uint8_t r4_8_8_0_17 = r5[146];
-        memcpy(r4_8_9, r5 + 147, 13);
-        bool extract_t43 = (r4_8_8_0_17 & 1u) != 0;
-        memcpy(r1_2, r4_8_4, 15);
-        memcpy(r1_4, r4_8_6, 97);
-        memcpy(r1_7, r4_8_9, 13);
-        if ((r4_8_7_0_15 & 1u) != 0) {
-            r4_12_03157 = r2_2_144;
-            r4_16_03255 = r2_4_145;
-            r4_20_03353 = r2_6_146;
-            r4_8_0_03450 = r4_8_0_0_11;
-            r4_8_5_03547 = r4_8_5_0_13;
-            r4_8_8_038_off046 = extract_t43;
-            goto then_1;
-        }
-        r4_12_03156 = r2_2_144;
-        r4_16_03254 = r2_4_145;
-        r4_20_03352 = r2_6_146;
-        r4_8_0_03451 = r4_8_0_0_11;
-        r4_8_5_03548 = r4_8_5_0_13;
-        r4_8_8_038_off045 = extract_t43;
-        r2_0_off0 = false;
-        goto join_3;
-    }
-    initialization_initialize(r0, r2);
-    uint8_t v11 = *r0;
-    uint8_t v12 = r0[1];
-    uint8_t v13 = r0[2];
-    uint8_t r4_8_0_0 = r0[16];
-    memcpy(r4_8_4, r0 + 17, 15);
-    u128 r4_8_5_0 = load128_aligned(r0 + 32);
-    memcpy(r4_8_6, r0 + 48, 97);
-    uint8_t r4_8_7_0 = r0[145];
-    uint8_t r4_8_8_0 = r0[146];
-    memcpy(r4_8_9, r0 + 147, 13);
-    uint8_t v14 = r0[160];
-    uint8_t v15 = r0[161];
-    uint8_t v16 = r0[162];
-    if (v11 == 0u) {
-        bool extract_t42 = (r4_8_8_0 & 1u) != 0;
-        memcpy(r1_2, r4_8_4, 15);
-        memcpy(r1_4, r4_8_6, 97);
-        memcpy(r1_7, r4_8_9, 13);
-        if ((r4_8_7_0 & 1u) != 0) {
-            r4_12_03157 = v14;
-            r4_16_03255 = v15;
-            r4_20_03353 = v16;
-            r4_8_0_03450 = r4_8_0_0;
-            r4_8_5_03547 = r4_8_5_0;
-            r4_8_8_038_off046 = extract_t42;
-            goto then_1;
-        }
-        r4_12_03156 = v14;
-        r4_16_03254 = v15;
-        r4_20_03352 = v16;
-        r4_8_0_03451 = r4_8_0_0;
-        r4_8_5_03548 = r4_8_5_0;
-        r4_8_8_038_off045 = extract_t42;
-        r2_0_off0 = false;
-        goto join_3;
-    }
-    if (v12 != 0u) {
-        r6_0 = (v13 == 0u) ? UINT32_C(0xffffffec) : UINT32_C(0xffffffeb);
-        goto kelifandro_opening_open_over_1bed76fd314cf36e_exit;
-    }
-    r6_0 = load32_aligned(at((uint8_t *)bytes_opening_open_once, (uint64_t)v13 * 4u));
-    goto kelifandro_opening_open_over_1bed76fd314cf36e_exit;
-}
-then_1: {
-    uint64_t r14 = (uint64_t)u128_lshr(r4_8_5_03547, 56u).lo & UINT64_C(0xffffffffffff);
-    if (r4_8_0_03450 != 1u) {
-        r4_12_03156 = r4_12_03157;
-        r4_16_03254 = r4_16_03255;
-        r4_20_03352 = r4_20_03353;
-        r4_8_0_03451 = r4_8_0_03450;
-        r4_8_5_03548 = r4_8_5_03547;
-        r4_8_8_038_off045 = r4_8_8_038_off046;
-        r2_0_off0 = true;
-        goto join_3;
-    }
-    switch ((uint8_t)u128_lshr(r4_8_5_03547, 120u).lo) {
-    default: {
-        r4_12_03156 = r4_12_03157;
-        r4_16_03254 = r4_16_03255;
-        r4_20_03352 = r4_20_03353;
-        r4_8_0_03451 = 1u;
-        r4_8_5_03548 = r4_8_5_03547;
-        r4_8_8_038_off045 = r4_8_8_038_off046;
-        r2_0_off0 = true;
-        goto join_3;
-    }
-    case 2u: {
-        switch (r14) {
-        default: {
-            if (r4_8_8_038_off046) {
-                r4_12_031565980 = r4_12_03157;
-                r4_16_032546179 = r4_16_03255;
-                r4_20_033526378 = r4_20_03353;
-                r4_8_0_034516477 = 1u;
-                r4_8_5_035486676 = r4_8_5_03547;
-                r2_0_off0_6875 = true;
-                r5_0_shrunk = false;
-                goto mmc_switch_known_faults_locks_up_at_cmd23_exit;
-            }
-            r2_0_off0_67 = true;
-            r4_8_0_0345165 = 1u;
-            r4_20_0335262 = r4_20_03353;
-            r4_16_0325460 = r4_16_03255;
-            r4_12_0315658 = r4_12_03157;
-            r4_8_5_03549 = r4_8_5_03547;
-            r6_0_off0 = false;
-            goto arm_1_9;
-        }
-        case UINT64_C(0x53454d303247):
-        case UINT64_C(0x53454d303447):
-        case UINT64_C(0x53454d303847):
-        case UINT64_C(0x53454d313647):
-        case UINT64_C(0x53454d333247): {
-            r4_12_03156 = r4_12_03157;
-            r4_16_03254 = r4_16_03255;
-            r4_20_03352 = r4_20_03353;
-            r4_8_0_03451 = 1u;
-            r4_8_5_03548 = r4_8_5_03547;
-            r4_8_8_038_off045 = r4_8_8_038_off046;
-            r2_0_off0 = false;
-            goto join_3;
-        }
-        }
-    }
-    case 112u: {
-        switch (r14) {
-        default: {
-            if (r4_8_8_038_off046) {
-                r4_12_031565980 = r4_12_03157;
-                r4_16_032546179 = r4_16_03255;
-                r4_20_033526378 = r4_20_03353;
-                r4_8_0_034516477 = 1u;
-                r4_8_5_035486676 = r4_8_5_03547;
-                r2_0_off0_6875 = true;
-                r5_0_shrunk = false;
-                goto mmc_switch_known_faults_locks_up_at_cmd23_exit;
-            }
-            r2_0_off0_67 = true;
-            r4_8_0_0345165 = 1u;
-            r4_20_0335262 = r4_20_03353;
-            r4_16_0325460 = r4_16_03255;
-            r4_12_0315658 = r4_12_03157;
-            r4_8_5_03549 = r4_8_5_03547;
-            r6_0_off0 = false;
-            goto arm_1_9;
-        }
-        case UINT64_C(0x4d3632373034):
-        case UINT64_C(0x563130303038):
-        case UINT64_C(0x563130303136): {
-            r4_12_03156 = r4_12_03157;
-            r4_16_03254 = r4_16_03255;
-            r4_20_03352 = r4_20_03353;
-            r4_8_0_03451 = 1u;
-            r4_8_5_03548 = r4_8_5_03547;
-            r4_8_8_038_off045 = r4_8_8_038_off046;
-            r2_0_off0 = false;
-            goto join_3;
-        }
-        }
-    }
-    case 19u: {
-        bool r29 = r14 != UINT64_C(0x51324a353441);
-        if (r4_8_8_038_off046) {
-            r4_12_031565980 = r4_12_03157;
-            r4_16_032546179 = r4_16_03255;
-            r4_20_033526378 = r4_20_03353;
-            r4_8_0_034516477 = 1u;
-            r4_8_5_035486676 = r4_8_5_03547;
-            r2_0_off0_6875 = r29;
-            r5_0_shrunk = false;
-            goto mmc_switch_known_faults_locks_up_at_cmd23_exit;
-        }
-        r2_0_off0_67 = r29;
-        r4_8_0_0345165 = 1u;
-        r4_20_0335262 = r4_20_03353;
-        r4_16_0325460 = r4_16_03255;
-        r4_12_0315658 = r4_12_03157;
-        r4_8_5_03549 = r4_8_5_03547;
-        r6_0_off0 = false;
-        goto arm_1_9;
-    }
-    }
-}
-join_3: {
-    if (!r4_8_8_038_off045) {
-        r2_0_off0_67 = r2_0_off0;
-        r4_8_0_0345165 = r4_8_0_03451;
-        r4_20_0335262 = r4_20_03352;
-        r4_16_0325460 = r4_16_03254;
-        r4_12_0315658 = r4_12_03156;
-        r4_8_5_03549 = r4_8_5_03548;
-        r6_0_off0 = false;
-        goto arm_1_9;
-    }
-    if (r4_8_0_03451 != 0u) {
-        r4_12_031565980 = r4_12_03156;
-        r4_16_032546179 = r4_16_03254;
-        r4_20_033526378 = r4_20_03352;
-        r4_8_0_034516477 = r4_8_0_03451;
-        r4_8_5_035486676 = r4_8_5_03548;
-        r2_0_off0_6875 = r2_0_off0;
-        r5_0_shrunk = false;
-        goto mmc_switch_known_faults_locks_up_at_cmd23_exit;
-    }
-    switch ((uint8_t)u128_lshr(r4_8_5_03548, 120u).lo) {
-    default: {
-        r4_12_031565980 = r4_12_03156;
-        r4_16_032546179 = r4_16_03254;
-        r4_20_033526378 = r4_20_03352;
-        r4_8_0_034516477 = 0u;
-        r4_8_5_035486676 = r4_8_5_03548;
-        r2_0_off0_6875 = r2_0_off0;
-        r5_0_shrunk = false;
-        goto mmc_switch_known_faults_locks_up_at_cmd23_exit;
-    }
-    case 9u: {
-        r4_12_031565980 = r4_12_03156;
-        r4_16_032546179 = r4_16_03254;
-        r4_20_033526378 = r4_20_03352;
-        r4_8_0_034516477 = 0u;
-        r4_8_5_035486676 = r4_8_5_03548;
-        r2_0_off0_6875 = r2_0_off0;
-        r5_0_shrunk = u128_eq(u128_and(r4_8_5_03548, u128_of(UINT64_C(0xffffffffff), 0u)), u128_of(UINT64_C(0x4146205344), 0u));
-        goto mmc_switch_known_faults_locks_up_at_cmd23_exit;
-    }
-    case 39u: {
-        r4_12_031565980 = r4_12_03156;
-        r4_16_032546179 = r4_16_03254;
-        r4_20_033526378 = r4_20_03352;
-        r4_8_0_034516477 = 0u;
-        r4_8_5_035486676 = r4_8_5_03548;
-        r2_0_off0_6875 = r2_0_off0;
-        r5_0_shrunk = u128_eq(u128_and(r4_8_5_03548, u128_of(UINT64_C(0xffffffffff), 0u)), u128_of(UINT64_C(0x4150555344), 0u));
-        goto mmc_switch_known_faults_locks_up_at_cmd23_exit;
-    }
-    }
-}
-mmc_switch_known_faults_locks_up_at_cmd23_exit: {
-    r2_0_off0_67 = r2_0_off0_6875;
-    r4_8_0_0345165 = r4_8_0_034516477;
-    r4_20_0335262 = r4_20_033526378;
-    r4_16_0325460 = r4_16_032546179;
-    r4_12_0315658 = r4_12_031565980;
-    r4_8_5_03549 = r4_8_5_035486676;
-    r6_0_off0 = r5_0_shrunk != true;
-}
-arm_1_9: {
-    *r9 = r4_8_0_0345165;
-    memcpy(r9 + 1, r1_2, 15);
-    store128_aligned(r9 + 16, r4_8_5_03549);
-    memcpy(r9 + 32, r1_4, 97);
-    r9[129] = (uint8_t)r2_0_off0_67;
-    r9[130] = (uint8_t)r6_0_off0;
-    memcpy(r9 + 131, r1_7, 13);
-    r9[144] = r4_12_0315658;
-    r9[145] = r4_16_0325460;
-    r9[146] = r4_20_0335262;
-    noted_note(r7_3, r9);
-    memcpy(a1, r7_3, 104);
-    noting_stands_by(r2_2, a1);
-    if (*r2_2 == 1u) {
-        v = 0u;
-        goto kelifandro_opening_is_noted_exit;
-    }
-    *a1 = 0u;
-    v = UINT32_C(0xffffffeb);
-}
-kelifandro_opening_is_noted_exit: {
-    r6_0 = v;
-}
-kelifandro_opening_open_over_1bed76fd314cf36e_exit: {
-    uint8_t r0_0_0 = *r2;
-    memcpy(r4 + 4, r2 + 4, 84);
-    store32_aligned(r4, (uint32_t)r0_0_0);
-    hosts_end(r4, r6_0 != 0u);
-    r7_0 = r6_0;
-}
-join_4: {
-    return r7_0;
 }
 }
 
@@ -8515,112 +8522,6 @@ void kelifandro_close_by(const void *way)
     return;
 }
 
-/* kelifandro_serve_by */
-int32_t kelifandro_serve_by(const void *way, void *card, void *healed, const void *asked, void *blocks, uint64_t count)
-{
-    KELIFANDRO_ROOM uint8_t r4[32];
-    uint32_t r5_0;
-    uint8_t *way_bytes = (uint8_t *)way;
-    uint8_t *card_bytes = (uint8_t *)card;
-    uint8_t *healed_bytes = (uint8_t *)healed;
-    uint8_t *asked_bytes = (uint8_t *)asked;
-    uint8_t *blocks_bytes = (uint8_t *)blocks;
-    AskedRecord_asked(r4, asked_bytes);
-    if (*r4 != 1u) {
-        r5_0 = UINT32_C(0xfffffffe);
-        goto kelifandro_exports_kelifandro_serve_by_exit;
-    }
-    uint32_t r28 = requests_serve_told(way_bytes, card_bytes, healed_bytes, r4 + 8, at(blocks_bytes, (blocks_bytes == (uint8_t *)0) ? 4096u : 0u), count);
-    r5_0 = r28;
-kelifandro_exports_kelifandro_serve_by_exit: {
-    return signed32(r5_0);
-}
-}
-
-/* kelifandro_serve_long_by */
-int32_t kelifandro_serve_long_by(const void *way, void *card, void *healed, const void *asked, void *blocks, uint64_t count, void *done)
-{
-    KELIFANDRO_ROOM uint8_t room[32];
-    uint8_t *const r7 = room;
-    uint8_t *const r3 = room;
-    uint8_t *const r4_2 = room;
-    uint8_t *const r15_23 = room + 24;
-    uint8_t *r4;
-    uint8_t r3_0_0;
-    uint8_t r3_3_0;
-    uint64_t r3_51_0;
-    uint64_t r1;
-    uint64_t r3826;
-    uint32_t common_ret_op;
-    uint32_t r13_0;
-    uint32_t r5_0;
-    uint8_t *way_bytes = (uint8_t *)way;
-    uint8_t *card_bytes = (uint8_t *)card;
-    uint8_t *healed_bytes = (uint8_t *)healed;
-    uint8_t *asked_bytes = (uint8_t *)asked;
-    uint8_t *blocks_bytes = (uint8_t *)blocks;
-    uint8_t *done_bytes = (uint8_t *)done;
-    r4 = at(blocks_bytes, (blocks_bytes == (uint8_t *)0) ? 4096u : 0u);
-    AskedRecord_asked(r4_2, asked_bytes);
-    if (*r4_2 != 1u) {
-        store64_aligned(done_bytes, 0u);
-        r5_0 = UINT32_C(0xfffffffe);
-        goto kelifandro_exports_kelifandro_serve_long_by_exit;
-    }
-    r3_0_0 = r4_2[8];
-    r3_3_0 = r4_2[9];
-    r3_51_0 = load64_aligned(r4_2 + 16);
-    store64_aligned(done_bytes, 0u);
-    *r3 = r3_0_0;
-    r3[1] = r3_3_0;
-    store64_aligned(r3 + 8, r3_51_0);
-    store64_aligned(r3 + 16, count);
-    struct of_i8_i32 r33 = longs_may_begin(way_bytes, card_bytes, r3);
-    if (r33.f0 == 1u) {
-        r13_0 = r33.f1;
-        goto kelifandro_longs_serve_long_fb070baa9c134c3e_exit;
-    }
-    if (count == 0u) {
-        common_ret_op = 0u;
-        goto kelifandro_longs_serve_parts_fb070baa9c134c3e_exit;
-    }
-    uint16_t r10 = load16_aligned(way_bytes + 8);
-    r1 = ((way_bytes[15] == 0u) || ((uint16_t)(r10 + 53248u) < 53260u)) ? 65535u : ((uint64_t)(uint16_t)(r10 / 12u) << 6u);
-    r3826 = 0u;
-join_5: {
-    uint64_t a1_a0 = umin64(r1, count - r3826);
-    *r7 = r3_0_0;
-    r7[1] = r3_3_0;
-    store64_aligned(r7 + 8, uadd_sat64(r3826, r3_51_0));
-    store64_aligned(r7 + 16, a1_a0);
-    uint32_t r101 = requests_serve_told(way_bytes, card_bytes, healed_bytes, r7, at(r4, r3826 << 9u), a1_a0);
-    if (r101 != 0u) {
-        common_ret_op = r101;
-        goto kelifandro_longs_serve_parts_fb070baa9c134c3e_exit;
-    }
-    store64_aligned(done_bytes, load64_aligned(done_bytes) + a1_a0);
-    uint32_t r116 = load32_aligned(way_bytes);
-    *r15_23 = 12u;
-    store32(r15_23 + 1, (uint32_t)a1_a0);
-    io_write_all(r116, r15_23, 5u);
-    uint64_t r38 = load64_aligned(done_bytes);
-    if (r38 < count) {
-        r3826 = r38;
-        goto join_5;
-    }
-    common_ret_op = 0u;
-}
-kelifandro_longs_serve_parts_fb070baa9c134c3e_exit: {
-    r13_0 = common_ret_op;
-}
-kelifandro_longs_serve_long_fb070baa9c134c3e_exit: {
-    r5_0 = r13_0;
-}
-kelifandro_exports_kelifandro_serve_long_by_exit: {
-    return signed32(r5_0);
-}
-}
-
 /* kelifandro_open_by */
 int32_t kelifandro_open_by(const void *way, void *card, void *healed)
 {
@@ -8644,5 +8545,125 @@ int32_t kelifandro_open_by(const void *way, void *card, void *healed)
     common_ret_op = r37;
 kelifandro_exports_kelifandro_open_by_exit: {
     return signed32(common_ret_op);
+}
+}
+
+/* kelifandro_serve_by */
+int32_t kelifandro_serve_by(const void *way, void *card, void *healed, const void *asked, void *blocks, uint64_t count)
+{
+    KELIFANDRO_ROOM uint8_t r3[32];
+    uint32_t r5_0;
+    uint8_t *way_bytes = (uint8_t *)way;
+    uint8_t *card_bytes = (uint8_t *)card;
+    uint8_t *healed_bytes = (uint8_t *)healed;
+    uint8_t *asked_bytes = (uint8_t *)asked;
+    uint8_t *blocks_bytes = (uint8_t *)blocks;
+    uint32_t r12 = load32_aligned(asked_bytes + 16);
+    uint8_t r16 = (uint8_t)r12;
+    if (!((r12 < 256u) && (r16 < 7u))) {
+        r5_0 = UINT32_C(0xfffffffe);
+        goto kelifandro_exports_kelifandro_serve_by_exit;
+    }
+    uint64_t r10 = load64_aligned(asked_bytes);
+    uint64_t r12_2 = load64_aligned(asked_bytes + 8);
+    uint16_t r34 = load16_aligned(asked_bytes + 22);
+    *r3 = (uint8_t)umin16(load16_aligned(asked_bytes + 20), 3u);
+    r3[1] = r16;
+    store64_aligned(r3 + 8, r10);
+    store64_aligned(r3 + 16, r12_2);
+    store16_aligned(r3 + 24, r34);
+    uint32_t r28 = requests_serve_told(way_bytes, card_bytes, healed_bytes, r3, at(blocks_bytes, (blocks_bytes == (uint8_t *)0) ? 4096u : 0u), count);
+    r5_0 = r28;
+kelifandro_exports_kelifandro_serve_by_exit: {
+    return signed32(r5_0);
+}
+}
+
+/* kelifandro_serve_long_by */
+int32_t kelifandro_serve_long_by(const void *way, void *card, void *healed, const void *asked, void *blocks, uint64_t count, void *done)
+{
+    KELIFANDRO_ROOM uint8_t room[32];
+    uint8_t *const r7_1 = room;
+    uint8_t *const r3 = room;
+    KELIFANDRO_ROOM uint8_t r15_22[5];
+    uint8_t *r4;
+    uint64_t r10;
+    uint16_t r34;
+    uint64_t r1;
+    uint64_t r18_0_0_insert_insert;
+    uint64_t r4026;
+    uint64_t r18_0_025;
+    uint32_t common_ret_op;
+    uint32_t r13_0;
+    uint32_t r5_0;
+    uint8_t *way_bytes = (uint8_t *)way;
+    uint8_t *card_bytes = (uint8_t *)card;
+    uint8_t *healed_bytes = (uint8_t *)healed;
+    uint8_t *asked_bytes = (uint8_t *)asked;
+    uint8_t *blocks_bytes = (uint8_t *)blocks;
+    uint8_t *done_bytes = (uint8_t *)done;
+    r4 = at(blocks_bytes, (blocks_bytes == (uint8_t *)0) ? 4096u : 0u);
+    uint32_t r12 = load32_aligned(asked_bytes + 16);
+    uint8_t r16 = (uint8_t)r12;
+    if (!((r12 < 256u) && (r16 < 7u))) {
+        store64_aligned(done_bytes, 0u);
+        r5_0 = UINT32_C(0xfffffffe);
+        goto kelifandro_exports_kelifandro_serve_long_by_exit;
+    }
+    uint16_t r1_0_01 = umin16(load16_aligned(asked_bytes + 20), 3u);
+    r10 = load64_aligned(asked_bytes);
+    r34 = load16_aligned(asked_bytes + 22);
+    store64_aligned(done_bytes, 0u);
+    *r3 = (uint8_t)r1_0_01;
+    r3[1] = r16;
+    store64_aligned(r3 + 8, r10);
+    store64_aligned(r3 + 16, count);
+    struct of_i8_i32 r33_2 = longs_may_begin(way_bytes, card_bytes, r3);
+    if (r33_2.f0 == 1u) {
+        r13_0 = r33_2.f1;
+        goto kelifandro_longs_serve_long_fb070baa9c134c3e_exit;
+    }
+    if (count == 0u) {
+        common_ret_op = 0u;
+        goto kelifandro_longs_serve_parts_fb070baa9c134c3e_exit;
+    }
+    uint16_t r10_2 = load16_aligned(way_bytes + 8);
+    r1 = ((way_bytes[15] == 0u) || ((uint16_t)(r10_2 + 53248u) < 53260u)) ? 65535u : ((uint64_t)(uint16_t)(r10_2 / 12u) << 6u);
+    r18_0_0_insert_insert = (uint64_t)((r12 << 8u) | (uint32_t)r1_0_01);
+    r4026 = 0u;
+    r18_0_025 = 0u; /* any */
+join_5: {
+    uint64_t a1_a0 = umin64(r1, count - r4026);
+    uint64_t r18_0_1_insert_insert = (r18_0_025 & UINT64_C(0xffffffffffff0000)) | r18_0_0_insert_insert;
+    store64_aligned(r7_1, r18_0_1_insert_insert);
+    store64_aligned(r7_1 + 8, uadd_sat64(r4026, r10));
+    store64_aligned(r7_1 + 16, a1_a0);
+    store16_aligned(r7_1 + 24, r34);
+    uint32_t r107 = requests_serve_told(way_bytes, card_bytes, healed_bytes, r7_1, at(r4, r4026 << 9u), a1_a0);
+    if (r107 != 0u) {
+        common_ret_op = r107;
+        goto kelifandro_longs_serve_parts_fb070baa9c134c3e_exit;
+    }
+    store64_aligned(done_bytes, load64_aligned(done_bytes) + a1_a0);
+    uint32_t r122 = load32_aligned(way_bytes);
+    *r15_22 = 12u;
+    store32(r15_22 + 1, (uint32_t)a1_a0);
+    io_write_all(r122, r15_22, 5u);
+    uint64_t r40 = load64_aligned(done_bytes);
+    if (r40 < count) {
+        r4026 = r40;
+        r18_0_025 = r18_0_1_insert_insert;
+        goto join_5;
+    }
+    common_ret_op = 0u;
+}
+kelifandro_longs_serve_parts_fb070baa9c134c3e_exit: {
+    r13_0 = common_ret_op;
+}
+kelifandro_longs_serve_long_fb070baa9c134c3e_exit: {
+    r5_0 = r13_0;
+}
+kelifandro_exports_kelifandro_serve_long_by_exit: {
+    return signed32(r5_0);
 }
 }

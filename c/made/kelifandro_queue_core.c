@@ -76,6 +76,27 @@ static inline u128 u128_of(uint64_t high, uint64_t low)
     return made;
 }
 
+static inline uint16_t load16(const uint8_t *bytes)
+{
+#if KELIFANDRO_BY_BYTES
+    return (uint16_t)((uint32_t)bytes[0] | (uint32_t)bytes[1] << 8);
+#else
+    uint16_t value = 0;
+    memcpy(&value, bytes, 2);
+    return value;
+#endif
+}
+
+static inline void store16(uint8_t *bytes, uint16_t value)
+{
+#if KELIFANDRO_BY_BYTES
+    bytes[0] = (uint8_t)value;
+    bytes[1] = (uint8_t)(value >> 8);
+#else
+    memcpy(bytes, &value, 2);
+#endif
+}
+
 static inline uint32_t load32(const uint8_t *bytes)
 {
 #if KELIFANDRO_BY_BYTES
@@ -126,6 +147,15 @@ static inline void store64(uint8_t *bytes, uint64_t value)
 #endif
 }
 
+static inline uint16_t load16_aligned(const uint8_t *bytes)
+{
+#if KELIFANDRO_AT_ONCE
+    return *(const any16 *)(const void *)bytes;
+#else
+    return load16(bytes);
+#endif
+}
+
 static inline uint32_t load32_aligned(const uint8_t *bytes)
 {
 #if KELIFANDRO_AT_ONCE
@@ -158,7 +188,7 @@ static inline uint8_t umin8(uint8_t a, uint8_t b)
     return a < b ? a : b;
 }
 
-static inline uint32_t umin32(uint32_t a, uint32_t b)
+static inline uint16_t umin16(uint16_t a, uint16_t b)
 {
     return a < b ? a : b;
 }
@@ -416,16 +446,17 @@ uint8_t kelifandro_start_by(void *slots, uint64_t count, uint64_t most, void *as
     u128 r69;
     bool r52;
     uint64_t r3_09;
+    uint16_t r0_13_0_ph;
     uint64_t r0_11_0_ph;
     uint64_t r0_92_0_ph;
     uint8_t r0_7_0_ph;
     uint8_t r0_41_0_ph;
-    uint8_t r4_0_0_extract_trunc21;
+    uint8_t r4_0_0_extract_trunc24;
     uint8_t *slots_bytes = (uint8_t *)slots;
     uint8_t *asked_bytes = (uint8_t *)asked;
     r4 = at(slots_bytes, (slots_bytes == (uint8_t *)0) ? 4096u : 0u);
     if (count == 0u) {
-        r4_0_0_extract_trunc21 = 0u;
+        r4_0_0_extract_trunc24 = 0u;
         goto kelifandro_queue_exports_kelifandro_start_by_exit;
     }
     r3_07 = 0u;
@@ -445,6 +476,7 @@ join_5: {
     uint8_t r5_6_0 = r9[30];
     uint64_t r12 = (uint64_t)load32(r9 + 16);
     r9[28] = 2u;
+    r0_13_0_ph = 0u;
     r0_11_0_ph = (uint64_t)r5_3_0 + r12;
     r0_92_0_ph = r12;
     r0_7_0_ph = umin8(r5_5_0, 3u);
@@ -456,7 +488,7 @@ join_5_8: {
     if (r9_11[28] != 1u) {
         uint64_t r28_16 = r3_07_9 + 1u;
         if (r28_16 == count) {
-            r4_0_0_extract_trunc21 = 0u;
+            r4_0_0_extract_trunc24 = 0u;
             goto kelifandro_queue_exports_kelifandro_start_by_exit;
         }
         r3_07_9 = r28_16;
@@ -538,25 +570,26 @@ join_8_2: {
 }
 join_8: {
     uint64_t r33 = r3_014 + 1u;
-    if (r33 == count) {
-        r0_11_0_ph = r4_16_055;
-        r0_92_0_ph = r4_12_054;
-        r0_7_0_ph = r3_33;
-        r0_41_0_ph = r3_4_34;
-        goto arm_1;
+    if (r33 != count) {
+        r3_014 = r33;
+        goto join_5_2;
     }
-    r3_014 = r33;
-    goto join_5_2;
+    r0_13_0_ph = (uint16_t)((r4_19_056 < 2u) ? 0u : 2u);
+    r0_11_0_ph = r4_16_055;
+    r0_92_0_ph = r4_12_054;
+    r0_7_0_ph = r3_33;
+    r0_41_0_ph = r3_4_34;
 }
 arm_1: {
     store64(asked_bytes, r0_92_0_ph);
     store64(asked_bytes + 8, usub_sat64(r0_11_0_ph, r0_92_0_ph));
     store32(asked_bytes + 16, (uint32_t)r0_41_0_ph);
-    store32(asked_bytes + 20, (uint32_t)r0_7_0_ph);
-    r4_0_0_extract_trunc21 = 1u;
+    store16(asked_bytes + 20, (uint16_t)r0_7_0_ph);
+    store16(asked_bytes + 22, r0_13_0_ph);
+    r4_0_0_extract_trunc24 = 1u;
 }
 kelifandro_queue_exports_kelifandro_start_by_exit: {
-    return r4_0_0_extract_trunc21;
+    return r4_0_0_extract_trunc24;
 }
 }
 
@@ -567,20 +600,19 @@ int32_t kelifandro_submit_by(const void *card, void *slots, uint64_t count, void
     uint8_t *const r6 = room;
     uint8_t *const r5 = room;
     uint8_t *r4;
-    bool narrow_not20;
-    uint64_t r5_212_0;
-    uint64_t r5_4_0;
-    uint64_t r5_5_0;
+    uint8_t r16;
+    bool narrow_not21;
+    uint8_t r5_212_0;
+    uint64_t r5_513_0;
+    uint64_t r5_6_0;
     bool r3_8_not;
     uint64_t r75;
     bool r1_not;
     bool r1_37;
-    uint8_t r3_0_0_extract_trunc;
-    uint8_t r3_2_0_extract_trunc;
     uint64_t r2_0_in_speculated;
     uint64_t r34;
     uint32_t r16_13;
-    uint32_t r16;
+    uint32_t r16_2;
     uint64_t r3_08;
     uint64_t r4_07;
     uint64_t r3_012;
@@ -593,17 +625,18 @@ int32_t kelifandro_submit_by(const void *card, void *slots, uint64_t count, void
     uint8_t *next_bytes = (uint8_t *)next;
     uint8_t *asked_bytes = (uint8_t *)asked;
     r4 = at(slots_bytes, (slots_bytes == (uint8_t *)0) ? 4096u : 0u);
-    uint32_t r13 = load32_aligned(asked_bytes + 16);
-    narrow_not20 = (r13 > 255u) || ((uint8_t)r13 > 6u);
-    if (narrow_not20) {
+    uint32_t r10 = load32_aligned(asked_bytes + 16);
+    r16 = (uint8_t)r10;
+    narrow_not21 = (r10 > 255u) || (r16 > 6u);
+    if (narrow_not21) {
         r5_212_0 = 0u; /* any */
-        r5_4_0 = 0u; /* any */
-        r5_5_0 = 0u; /* any */
+        r5_513_0 = 0u; /* any */
+        r5_6_0 = 0u; /* any */
         goto kelifandro_asked_AskedRecord_asked_exit;
     }
-    r5_212_0 = (uint64_t)(umin32(load32_aligned(asked_bytes + 20), 3u) | (r13 << 8u));
-    r5_4_0 = load64_aligned(asked_bytes);
-    r5_5_0 = load64_aligned(asked_bytes + 8);
+    r5_212_0 = (uint8_t)umin16(load16_aligned(asked_bytes + 20), 3u);
+    r5_513_0 = load64_aligned(asked_bytes);
+    r5_6_0 = load64_aligned(asked_bytes + 8);
 kelifandro_asked_AskedRecord_asked_exit: {
     bool r3_not = card_bytes[1] == 0u;
     r3_8_not = card_bytes[2] == 0u;
@@ -656,14 +689,12 @@ arm_5: {
     uint64_t a0_9 = (r20 > v) ? 0u : r20;
     r1_not = card_bytes[7] == 0u;
     r1_37 = card_bytes[8] != 0u;
-    if (narrow_not20 || ((uint8_t)(*card_bytes + 252u) < 253u)) {
-        r7_0 = narrow_not20 ? UINT32_C(0xfffffffe) : UINT32_C(0xffffffff);
+    if (narrow_not21 || ((uint8_t)(*card_bytes + 252u) < 253u)) {
+        r7_0 = narrow_not21 ? UINT32_C(0xfffffffe) : UINT32_C(0xffffffff);
         goto kelifandro_queue_exports_kelifandro_submit_by_exit;
     }
     uint64_t r15 = load64_aligned(card_bytes + 48);
-    r3_0_0_extract_trunc = (uint8_t)r5_212_0;
-    r3_2_0_extract_trunc = (uint8_t)(r5_212_0 >> 8u);
-    switch (r3_2_0_extract_trunc) {
+    switch (r16) {
     default: {
         trap();
         return 0;
@@ -700,26 +731,26 @@ mmc_switch_sizes_Sizes_of_exit: {
         r7_0 = UINT32_C(0xfffffffe);
         goto kelifandro_queue_exports_kelifandro_submit_by_exit;
     }
-    if (r5_5_0 == 0u) {
+    if (r5_6_0 == 0u) {
         r7_0 = UINT32_C(0xfffffffc);
         goto kelifandro_queue_exports_kelifandro_submit_by_exit;
     }
-    if ((r3_0_0_extract_trunc < 2u) && (r5_5_0 > 1024u)) {
+    if ((r5_212_0 < 2u) && (r5_6_0 > 1024u)) {
         r7_0 = UINT32_C(0xfffffffc);
         goto kelifandro_queue_exports_kelifandro_submit_by_exit;
     }
-    if ((r2_0_in_speculated < r5_5_0) || ((r2_0_in_speculated - r5_5_0) < r5_4_0)) {
+    if ((r2_0_in_speculated < r5_6_0) || ((r2_0_in_speculated - r5_6_0) < r5_513_0)) {
         r7_0 = UINT32_C(0xfffffffd);
         goto kelifandro_queue_exports_kelifandro_submit_by_exit;
     }
     if (!r1_not) {
-        if (r3_0_0_extract_trunc == 0u) {
+        if (r5_212_0 == 0u) {
             goto join_4;
         }
         r7_0 = UINT32_C(0xfffffffb);
         goto kelifandro_queue_exports_kelifandro_submit_by_exit;
     }
-    switch (r3_0_0_extract_trunc) {
+    switch (r5_212_0) {
     default: {
         trap();
         return 0;
@@ -729,19 +760,19 @@ mmc_switch_sizes_Sizes_of_exit: {
         goto join_4;
     }
     case 2u: {
-        if ((r5_4_0 % r75) != 0u) {
+        if ((r5_513_0 % r75) != 0u) {
             r7_0 = UINT32_C(0xfffffffa);
             goto kelifandro_queue_exports_kelifandro_submit_by_exit;
         }
-        uint64_t r19 = r5_5_0 + r5_4_0;
-        if (((uint8_t)(r3_2_0_extract_trunc + 255u) < 2u) || ((r19 != r2_0_in_speculated) && ((r19 % r75) != 0u))) {
+        uint64_t r19 = r5_6_0 + r5_513_0;
+        if (((uint8_t)(r16 + 255u) < 2u) || ((r19 != r2_0_in_speculated) && ((r19 % r75) != 0u))) {
             r7_0 = UINT32_C(0xfffffffa);
             goto kelifandro_queue_exports_kelifandro_submit_by_exit;
         }
         goto join_4;
     }
     case 3u: {
-        if (((uint8_t)(r3_2_0_extract_trunc + 253u) < 254u) && r1_37) {
+        if (((uint8_t)(r16 + 253u) < 254u) && r1_37) {
             goto join_4;
         }
         r7_0 = UINT32_C(0xfffffffa);
@@ -751,12 +782,12 @@ mmc_switch_sizes_Sizes_of_exit: {
 }
 join_4: {
     r34 = load64_aligned(next_bytes);
-    if (!((r5_5_0 | r5_4_0) < UINT64_C(0x100000000))) {
+    if (!((r5_6_0 | r5_513_0) < UINT64_C(0x100000000))) {
         r7_0 = UINT32_C(0xfffffffc);
         goto kelifandro_queue_exports_kelifandro_submit_by_exit;
     }
-    r16_13 = (uint32_t)r5_5_0;
-    r16 = (uint32_t)r5_4_0;
+    r16_13 = (uint32_t)r5_6_0;
+    r16_2 = (uint32_t)r5_513_0;
     if (r34 == UINT64_C(0xffffffffffffffff)) {
         r7_0 = UINT32_C(0xfffffff8);
         goto kelifandro_queue_exports_kelifandro_submit_by_exit;
@@ -824,12 +855,12 @@ mmc_slots_submission_make_room_exit: {
     uint8_t *r73 = at(r4, common_ret_op << 5u);
     store64(r73, r34);
     store64(r73 + 8, whose);
-    store32(r73 + 16, r16);
+    store32(r73 + 16, r16_2);
     store32(r73 + 20, r16_13);
     store32(r73 + 24, client);
     r73[28] = 1u;
-    r73[29] = r3_0_0_extract_trunc;
-    r73[30] = r3_2_0_extract_trunc;
+    r73[29] = r5_212_0;
+    r73[30] = r16;
     r73[31] = 0u;
     store64_aligned(next_bytes, load64_aligned(next_bytes) + 1u);
     r7_0 = 1u;
@@ -838,7 +869,7 @@ mmc_slots_submission_make_room_exit: {
 arm_6: {
 }
 mmc_direct_noting_stands_by_exit_thread: {
-    r7_0 = narrow_not20 ? UINT32_C(0xfffffffe) : UINT32_C(0xffffffff);
+    r7_0 = narrow_not21 ? UINT32_C(0xfffffffe) : UINT32_C(0xffffffff);
 }
 kelifandro_queue_exports_kelifandro_submit_by_exit: {
     return signed32(r7_0);

@@ -1,6 +1,7 @@
 //! A card, and the requests that it takes.
 
 use core::fmt;
+use core::num::NonZeroU16;
 
 use crate::error::{Error, LongError};
 use crate::host::{Host, Lines};
@@ -132,7 +133,7 @@ impl<W: Way> SdCard<W> {
     ///
     /// # Errors
     /// [`NotOpen`](Error::NotOpen), [`NoPartition`](Error::NoPartition), [`Count`](Error::Count) or [`OutOfRange`](Error::OutOfRange),
-    /// and then nothing was sent; by registers [`NoBaseClock`](Error::NoBaseClock); one of the five `Failed..` after four attempts.
+    /// and then nothing was sent; by registers [`NoBaseClock`](Error::NoBaseClock); one of the five `Failed..` once all attempts have failed.
     pub fn read(
         &mut self,
         partition: Partition,
@@ -250,6 +251,12 @@ impl<W: Way> SdCard<W> {
             csd: card.csd,
             scr: self.raw.scr(),
         })
+    }
+
+    /// How many attempts a request has from now on, each of which may fail; four where this wasn't called. After each that fails the card
+    /// is settled. Requests that a queue serves together have two, and each of them so many once it is served alone.
+    pub fn set_attempts(&mut self, attempts: NonZeroU16) {
+        self.raw.set_attempts(attempts.get());
     }
 
     /// What was met and healed since the card was opened.

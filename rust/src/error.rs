@@ -35,17 +35,17 @@ pub enum Error {
     NotErasable,
     /// Neither a host nor registers are given, which doesn't happen from here.
     NoHost,
-    /// Four attempts have failed, the last one because no response was heard. This holds of all five `Failed..`: each sector of a
-    /// write, an erase or a trim is old or new, and all others are unchanged. The card stays open: the next request settles it first,
-    /// or resets it.
+    /// All attempts have failed, four unless [`set_attempts`](crate::SdCard::set_attempts) says how many, the last one because no
+    /// response was heard. This holds of all five `Failed..`: each sector of a write, an erase or a trim is old or new, and all others
+    /// are unchanged. The card stays open: the next request settles it first, or resets it.
     FailedAnswer,
-    /// Four attempts have failed, the last one because a block was bad, missing or rejected.
+    /// All attempts have failed, the last one because a block was bad, missing or rejected.
     FailedData,
-    /// Four attempts have failed, the last one because a status showed an error.
+    /// All attempts have failed, the last one because a status showed an error.
     FailedStatus,
-    /// Four attempts have failed, the last one because the card was busy for too long.
+    /// All attempts have failed, the last one because the card was busy for too long.
     FailedBusy,
-    /// Four attempts have failed, and the last one couldn't even settle the card, as where it was taken out or has lost its power.
+    /// All attempts have failed, and the last one couldn't even settle the card, as where it was taken out or has lost its power.
     FailedRecovery,
     /// There is no card, or it doesn't answer; or its first blocks (SCR, switch status, EXT_CSD) don't come.
     NoCard,

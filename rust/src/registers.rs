@@ -23,6 +23,7 @@ pub struct Board {
     pub(crate) one_line: bool,
     pub(crate) is_there: bool,
     pub(crate) by_words: bool,
+    pub(crate) waits: bool,
     pub(crate) capabilities: u32,
 }
 
@@ -33,6 +34,7 @@ impl Board {
             one_line: false,
             is_there: false,
             by_words: false,
+            waits: false,
             capabilities: 0,
         }
     }
@@ -52,6 +54,12 @@ impl Board {
     /// The controller takes accesses of 32 bits alone: each has [`Size::Word`] then.
     pub const fn with_words_alone(mut self) -> Board {
         self.by_words = true;
+        self
+    }
+
+    /// [`wait`](Registers::wait) ends once an interrupt comes, and is called.
+    pub const fn with_interrupts(mut self) -> Board {
+        self.waits = true;
         self
     }
 
@@ -136,8 +144,21 @@ pub trait Registers {
     ///
     /// While a block or the end of a write is waited for it is asked for a microsecond a thousand times, and then for 50, ten thousand
     /// times at most, and while DMA moves all blocks two hundred thousand times; while the card is busy for 10, as often as the look
-    /// takes. So one that takes a tick of a clock for each makes these waits as much longer.
+    /// takes. So one that takes a tick of a clock for each makes these waits as much longer. With [`wait`](Registers::wait) it is asked
+    /// for once or twice before each, and while the card is busy for a quarter of the time that this has taken so far, from 10 to 1,000
+    /// microseconds.
     fn pause(&mut self, microseconds: u32);
+
+    /// Returns once one of these bits of Interrupt Status is set (30h, 32 bits, errors in the upper half; sections 2.2.17 and 2.2.18), or
+    /// so many microseconds are over, and no sooner: an operating system's processor has other work meanwhile. It is called where
+    /// [`board`](Registers::board) says [`with_interrupts`](Board::with_interrupts); otherwise the library looks again and again.
+    ///
+    /// The status says so, and not the interrupt: a bit may be set before the call, and a line fires for others and for nothing. It clears
+    /// no bit. Signal Enable (38h) is this function's: opening the card writes 0 to it, and nothing else of the library does.
+    fn wait(&mut self, interrupts: u32, microseconds: u32) {
+        let _ = interrupts;
+        self.pause(microseconds);
+    }
 
     /// What the board knows in place of the controller. It always has to say the same.
     fn board(&self) -> Board {
@@ -172,6 +193,10 @@ impl<R: Registers + ?Sized> Registers for &mut R {
 
     fn pause(&mut self, microseconds: u32) {
         (**self).pause(microseconds);
+    }
+
+    fn wait(&mut self, interrupts: u32, microseconds: u32) {
+        (**self).wait(interrupts, microseconds);
     }
 
     fn board(&self) -> Board {

@@ -48,6 +48,7 @@ type TransferFn = unsafe extern "C" fn(
     usize,
     *mut CMoved,
 ) -> c_int;
+type WaitFn = unsafe extern "C" fn(*mut c_void, u32, u32);
 type SwitchFn = unsafe extern "C" fn(*mut c_void) -> c_int;
 
 #[repr(C)]
@@ -73,6 +74,7 @@ pub struct CRegisters {
     read: Option<unsafe extern "C" fn(*mut c_void, c_uint, c_uint) -> u32>,
     write: Option<unsafe extern "C" fn(*mut c_void, c_uint, c_uint, u32)>,
     pause: Option<unsafe extern "C" fn(*mut c_void, u32)>,
+    wait: Option<WaitFn>,
     read_port: Option<unsafe extern "C" fn(*mut c_void, *mut c_void, usize)>,
     write_port: Option<unsafe extern "C" fn(*mut c_void, *const c_void, usize)>,
     lend: Option<unsafe extern "C" fn(*mut c_void, *mut c_void, usize, c_int) -> u64>,
@@ -132,6 +134,7 @@ pub struct CKelifandro {
     healed: Healed,
     scr: [u8; 8],
     ext_csd: *mut u8,
+    attempts: u16,
     was_reset: u8,
     call: CCall,
 }
@@ -253,6 +256,7 @@ impl Raw {
             healed: Healed::NONE,
             scr: [0; 8],
             ext_csd: ptr::null_mut(),
+            attempts: 0,
             was_reset: 0,
             call: CCall::NONE,
         })
@@ -269,6 +273,10 @@ impl Raw {
 
     pub(crate) fn scr(&self) -> [u8; 8] {
         self.0.scr
+    }
+
+    pub(crate) fn set_attempts(&mut self, attempts: u16) {
+        self.0.attempts = attempts;
     }
 
     pub(crate) fn take_was_reset(&mut self) -> bool {
@@ -491,6 +499,7 @@ fn registers_of<R: Registers>(registers: &mut R) -> CRegisters {
         read: Some(read_register::<R>),
         write: Some(write_register::<R>),
         pause: Some(pause_registers::<R>),
+        wait: board.waits.then_some(wait::<R> as WaitFn),
         read_port: Some(read_port::<R>),
         write_port: Some(write_port::<R>),
         lend: None,
@@ -724,6 +733,11 @@ unsafe extern "C" fn write_register<R: Registers>(
 unsafe extern "C" fn pause_registers<R: Registers>(context: *mut c_void, microseconds: u32) {
     // SAFETY: above
     unsafe { way::<R>(context) }.pause(microseconds);
+}
+
+unsafe extern "C" fn wait<R: Registers>(context: *mut c_void, interrupts: u32, microseconds: u32) {
+    // SAFETY: above
+    unsafe { way::<R>(context) }.wait(interrupts, microseconds);
 }
 
 unsafe extern "C" fn read_port<R: Registers>(

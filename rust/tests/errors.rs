@@ -2,6 +2,8 @@
 
 mod common;
 
+use core::num::NonZeroU16;
+
 use common::{by_blocks, by_registers, by_transfer, sectors, HasCard};
 use kelifandro::{
     Abilities, BlockFault, Blocks, Command, Error, Fault, Host, Ios, Lines, LongError, Moved,
@@ -165,20 +167,30 @@ fn failing(how: Option<How>) -> SdCard<Fails> {
     })
 }
 
-/// Four attempts fail, and each takes a counted number of exchanges (docs/ARCHITECTURE.md: 17 for each block and 19 more, and 158 for
-/// a settle and a select); then each sector is old or new, and the next request heals.
 fn fails_for_good(how: How, errors: &[Error]) {
-    const MOST: u32 = 4 * (17 * 2 + 19 + 158);
+    fails_after(None, how, errors);
+    for attempts in [1, 7] {
+        fails_after(NonZeroU16::new(attempts), how, errors);
+    }
+}
+
+/// So many attempts fail, or four, and each takes a counted number of exchanges (docs/ARCHITECTURE.md: 17 for each block and 19 more,
+/// and 158 for a settle and a select); then each sector is old or new, and the next request heals.
+fn fails_after(attempts: Option<NonZeroU16>, how: How, errors: &[Error]) {
+    let most = attempts.map_or(4, |n| u32::from(n.get()));
     let new = sectors(2, 1);
     let mut card = failing(None);
     card.open().expect("open");
+    if let Some(attempts) = attempts {
+        card.set_attempts(attempts);
+    }
     card.way_mut().how = Some(how);
     card.way_mut().asked = 0;
     let told = card.write(Partition::User, 7, &new).expect_err("it fails");
     assert!(errors.contains(&told), "{how:?}: {told}");
-    assert_eq!(card.healed().attempts, 4, "{how:?}");
+    assert_eq!(card.healed().attempts, u64::from(most), "{how:?}");
     assert!(
-        card.way().asked <= MOST,
+        card.way().asked <= most * (17 * 2 + 19 + 158),
         "{how:?}: asked {} times",
         card.way().asked
     );

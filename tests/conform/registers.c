@@ -1,6 +1,6 @@
 /* Registers that keep all rules, for tests/conform/run, over the controller and the card in memory. Time passes by accesses and pauses. What
    is lent goes through memory that the controller reaches; the processor's own is brought there and back. IS_EMMC is 1 for an eMMC device;
-   WAYS is Capabilities' bits 19 (ADMA2), 22 (SDMA) and 28 (64-bit addresses). Each file of wrong/ that says so has an edit that breaks a rule. */
+   WAYS is Capabilities' bits 19 (ADMA2), 22 (SDMA) and 28 (64-bit addresses); WAITS is 1 where it waits for interrupts. Each file of wrong/ that says so has an edit that breaks a rule. */
 #include <string.h>
 #include "conform.h"
 #include "controller.h"
@@ -10,6 +10,10 @@
 #endif
 #ifndef WAYS
 #define WAYS (1u << 19 | 1u << 22)
+#endif
+
+#ifndef WAITS
+#define WAITS 0
 #endif
 
 static struct card card;
@@ -42,6 +46,13 @@ static void wait_for(void *context, uint32_t asked)
 {
     (void)context;
     microseconds += asked;
+}
+
+static void wait_for_interrupt(void *context, uint32_t interrupts, uint32_t asked)
+{
+    uint64_t end = microseconds + asked;
+    while (!(controller_registers.read(context, 0x30, 4) & interrupts) && microseconds < end)
+        microseconds++;
 }
 
 static void read_words(void *context, void *bytes, size_t words)
@@ -86,6 +97,7 @@ struct conform conform_begin(void)
     registers.read = read_register;
     registers.write = write_register;
     registers.pause = wait_for;
+    registers.wait = WAITS ? wait_for_interrupt : 0;
     registers.read_port = read_words;
     registers.write_port = write_words;
     registers.lend = lend;

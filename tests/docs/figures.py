@@ -24,7 +24,7 @@ FACTS = [
     (r"\w+ s and (\w+) ms a sector", WORK, r"\(10_000_000 \+ ([\d_]+)", 1000),
     (r"(\w+) minutes at most for an erase", WORK, r"\.min\(([\d_]+)\)", 60000000),
     (r"(\w+) ms after an R3 that isn't ready", "crates/mmc_host/src/replies.rt", r"BETWEEN_INQUIRIES: u32 = ([\d_]+)", 1000),
-    (r"(\w+) attempts have failed", "crates/mmc_requests/src/limits.rt", r"ATTEMPTS: u64 = (\d+)", 1),
+    (r"its (\w+) attempts\s+have failed", "crates/mmc_requests/src/limits.rt", r"ATTEMPTS: u64 = (\d+)", 1),
     (r"(?:write of 1 to|requests and) ([\d,]+) sectors", "crates/mmc_requests/src/limits.rt", r"MAX_COUNT: u64 = (\d+)", 1),
     (r"(?:writes of|or writes) 1 to ([\d,]+) sectors", "crates/mmc_transfer/src/job.rt", r"MAX_BLOCKS: u32 = ([\d_]+)", 1),
     (r"up to (\w+) requests and", "crates/mmc_queue/src/extent.rt", r"MAX_GROUP: usize = (\d+)", 1),

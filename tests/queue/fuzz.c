@@ -109,9 +109,9 @@ static void submit(void)
     if (any_of(&seed, 2))
         *card = (struct kelifandro_card){.state = 1 + any_of(&seed, 3), .kind = 1, .lines = 4, .addressing = 1, .cid = {[15] = 1},
                                          .csd = {[15] = 1}, .user = 1024, .erase_unit = 1 + any_of(&seed, 8)};
-    *asked = (struct kelifandro_asked){any_number() & 0xffffffff, any_number() & 0xffffffff, any_number() & 0xff, any_of(&seed, 4)};
+    *asked = (struct kelifandro_asked){any_number() & 0xffffffff, any_number() & 0xffffffff, any_number() & 0xff, (uint16_t)any_of(&seed, 4), 0};
     if (any_of(&seed, 2))
-        *asked = (struct kelifandro_asked){any_of(&seed, 1100), any_of(&seed, 20), 0, any_of(&seed, 4)};
+        *asked = (struct kelifandro_asked){any_of(&seed, 1100), any_of(&seed, 20), 0, (uint16_t)any_of(&seed, 4), 0};
     result = kelifandro_submit_by(card, slots, count, next, asked, (uint32_t)any_number(), any_number());
     expect(result == KELIFANDRO_WAITING || (result <= KELIFANDRO_NOT_OPEN && result >= KELIFANDRO_FULL), "an answer to a submission",
            (unsigned long)-result);

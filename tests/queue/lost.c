@@ -91,9 +91,11 @@ static void meet_a_bad_sector(unsigned whose)
     for (unsigned i = 0; i < CLIENTS; i++)
         ask(i, KELIFANDRO_WRITES, KELIFANDRO_USER, FIRST + i * EACH);
     expect(kelifandro_turn(&queue) == CLIENTS, "a group fails, and is answered", whose);
+    expect(model.sd.healed.attempts == 2, "attempts of a group", (unsigned)model.sd.healed.attempts);
     expect(kelifandro_cancel(&requests[whose]) == KELIFANDRO_IN_SERVICE, "one that is to be served alone is given back", whose);
     turns = take_turns();
     expect(turns == CLIENTS, "a turn for each that is served alone", turns);
+    expect(model.sd.healed.attempts == 2 + 4 + CLIENTS - 1, "attempts of each alone", (unsigned)model.sd.healed.attempts);
     for (unsigned i = 0; i < CLIENTS; i++) {
         expect(requests[i].result == (i == whose ? KELIFANDRO_FAILED_DATA : KELIFANDRO_DONE), "who fails", i);
         expect(i == whose || holds(model.card.user, FIRST + i * EACH, (uint8_t)(0x10 + i)), "what was written beside a bad sector", i);

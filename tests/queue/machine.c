@@ -6,8 +6,9 @@
 #include <stdio.h>
 #include <stdlib.h>
 #include <string.h>
-#include "kelifandro_core.h"
 #include "kelifandro_queue.h"
+
+#include "kelifandro_core.h"
 
 enum { SECTORS = 24, MANY = 400, LONGEST = 4, MOST_SLOTS = 40, TO_BE_SERVED_ALONE = 3, PATIENCE = 1000 };
 enum state { NOT_SUBMITTED, WAITS, ANSWERED, TAKEN_BACK };
@@ -27,6 +28,7 @@ static uint8_t gathered[SECTORS * 512];
 static struct kelifandro card;
 static struct kelifandro_queue queue;
 static uint64_t last_ticket;
+static unsigned call_attempts;
 static unsigned long calls, call_sectors, answers_in_turn, sectors_in_turn, failed_in_turn;
 static unsigned long answers, failed, together, splits, given_back, closed;
 
@@ -77,12 +79,11 @@ static int fails(uint64_t start, uint64_t count)
     return fails_one_of && any_of(fails_one_of) == 0;
 }
 
-int32_t kelifandro_read(struct kelifandro *kelifandro, enum kelifandro_part part, uint64_t start, size_t count, void *bytes)
+static int32_t read(uint64_t start, uint64_t count, uint8_t *bytes)
 {
     int is_failed = fails(start, count);
-    (void)kelifandro, (void)part;
     for (size_t i = 0; i < count; i++)
-        memset((uint8_t *)bytes + 512 * i, is_failed ? 0xee : disk[start + i], 512);
+        memset(bytes + 512 * i, is_failed ? 0xee : disk[start + i], 512);
     return is_failed ? KELIFANDRO_FAILED_DATA : KELIFANDRO_DONE;
 }
 
@@ -96,22 +97,13 @@ static int32_t change(uint64_t start, uint64_t count, const uint8_t *bytes)
     return is_failed ? KELIFANDRO_FAILED_STATUS : KELIFANDRO_DONE;
 }
 
-int32_t kelifandro_write(struct kelifandro *kelifandro, enum kelifandro_part part, uint64_t start, size_t count, const void *bytes)
+int32_t kelifandro_serve(struct kelifandro *kelifandro, const struct kelifandro_asked *asked, const void *bytes)
 {
-    (void)kelifandro, (void)part;
-    return change(start, count, bytes);
-}
-
-int32_t kelifandro_erase(struct kelifandro *kelifandro, enum kelifandro_part part, uint64_t start, uint64_t count)
-{
-    (void)kelifandro, (void)part;
-    return change(start, count, 0);
-}
-
-int32_t kelifandro_trim(struct kelifandro *kelifandro, enum kelifandro_part part, uint64_t start, uint64_t count)
-{
-    (void)kelifandro, (void)part;
-    return change(start, count, 0);
+    (void)kelifandro;
+    call_attempts = asked->attempts;
+    if (asked->kind == KELIFANDRO_READS)
+        return read(asked->start, asked->count, (uint8_t *)(uintptr_t)bytes);
+    return change(asked->start, asked->count, asked->kind == KELIFANDRO_WRITES ? bytes : 0);
 }
 
 /* The sector machine. */
@@ -286,6 +278,7 @@ static void turn(void)
     expect(answers_in_turn <= 1 || next->request.kind < KELIFANDRO_ERASES, "erases are served together");
     expect(answers_in_turn == 0 || sectors_in_turn == call_sectors, "other sectors are served than were asked for");
     expect(answers_in_turn == 0 ? next->has_failed_with_others : next->state == ANSWERED, "another request is served than the next one");
+    expect(call_attempts == (answers_in_turn == 1 ? 0 : 2), "several have two attempts, one alone has as many as the card");
     together += answers_in_turn > 1;
     splits += answers_in_turn == 0;
 }

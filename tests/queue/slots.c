@@ -90,7 +90,8 @@ uint8_t kelifandro_start_by(void *slots, uint64_t count, uint64_t most, void *as
     for (k = alone != NOWHERE ? NOWHERE : next_to_join(slots, count, &extent, most); k != NOWHERE;
          k = next_to_join(slots, count, &extent, most))
         join(&extent, &all[k]);
-    *(struct kelifandro_asked *)asked = (struct kelifandro_asked){extent.start, extent.end - extent.start, extent.part, extent.kind};
+    *(struct kelifandro_asked *)asked = (struct kelifandro_asked){
+        extent.start, extent.end - extent.start, extent.part, (uint16_t)extent.kind, extent.members > 1 ? 2 : 0};
     return 1;
 }
 

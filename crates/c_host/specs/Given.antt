@@ -47,6 +47,7 @@ pub record HasRegisters (way : WayRecord) (registers : CRegisters) : Type 0 wher
   pub capabilities : registers.known.capabilities ≡ capabilities_by way.capabilities
   pub words : registers.is_by_words ≡ not (way.is_by_words == 0)
   pub lends : registers.lends ≡ not (way.lends == 0)
+  pub waits : registers.waits ≡ not (way.waits == 0)
   pub room : registers.room ≡ way.table_size
   pub kinds : registers.kinds ≡ kinds_by way
   pub lent : registers.lent ≡ None

@@ -141,6 +141,10 @@ is_busy_by answer = not (from_le_bytes w32 answer == 0)
 abbrev pub pause_record : ℕ → List ℕ
 pause_record micros = 6 ∷ to_le_bytes w32 micros
 
+-- it is waited for one of these bits of Interrupt Status, or so many microseconds
+abbrev pub wait_record : ℕ → ℕ → List ℕ
+wait_record interrupts micros = 19 ∷ (to_le_bytes w32 interrupts ++ to_le_bytes w32 micros)
+
 -- the card's power is switched
 abbrev pub power_record : Bool → List ℕ
 power_record is_on = 7 ∷ bit is_on ∷ []

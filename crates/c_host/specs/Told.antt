@@ -9,7 +9,7 @@ use Rattle.mmc_host.specs.declared.told.HostCommand.{HostCommand}
 use Rattle.mmc_host.specs.declared.told.Ios.{Ios}
 use Rattle.mmc_host.specs.declared.told.ResponseFault.{ResponseFault}
 use Rattle.c_host.specs.Records.{block_by, command_record, heard_by, ios_record, is_busy_by, look_record, pause_record, read_by}
-use Rattle.c_host.specs.Records.{status_by, touched_by, with_record, written_by}
+use Rattle.c_host.specs.Records.{status_by, touched_by, wait_record, with_record, written_by}
 use Rattle.c_host.specs.Talk.{Talk, last_answer, last_count}
 use Rattle.c_host.specs.Talk.Talk.{Asked, Came, Told}
 
@@ -65,6 +65,9 @@ TellsPort block old new = new ≡ Came (last_count new) block ∷ old
 
 abbrev pub TellsPause : ℕ → List Talk → List Talk → Type 0
 TellsPause micros old new = new ≡ Told (pause_record micros) ∷ old
+
+abbrev pub TellsWait : ℕ → ℕ → List Talk → List Talk → Type 0
+TellsWait interrupts micros old new = new ≡ Told (wait_record interrupts micros) ∷ old
 
 abbrev pub TellsIos : Ios → List Talk → List Talk → Type 0
 TellsIos ios old new = new ≡ Told (ios_record ios) ∷ old

@@ -35,6 +35,8 @@ pub struct WayRecord {
     pub is_by_words: u8,
     /// 0 where no memory is lent.
     pub lends: u8,
+    /// 0 where no interrupt is waited for.
+    pub waits: u8,
     /// A host: 0 where it can't switch the card's power.
     pub switches_power: u8,
     /// A library without SD cards: not 0.
@@ -125,6 +127,7 @@ pub fn given_by(way: &WayRecord) -> Given
         },
         is_by_words: way.is_by_words != 0,
         lends: way.lends != 0,
+        waits: way.waits != 0,
         room: way.table_size,
         kinds: kinds_by(way),
         lent: None,

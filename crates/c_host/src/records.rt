@@ -3,7 +3,7 @@ ghost use Rattle.std.specs.Prelude.{◌≡◌, true, ℕ};
 ghost use Rattle.std.specs.Int.{from_le_bytes};
 ghost use Rattle.c_host.specs.Records.{command_record, count_number, data_number, failed_by, fault_by, good_by};
 ghost use Rattle.c_host.specs.Records.{heard_by, heard_in, ios_record, is_word, length_number, lines_number, moved_by};
-ghost use Rattle.c_host.specs.Records.{refused_by, register_in, response_number, status_by, timing_number, touched_by};
+ghost use Rattle.c_host.specs.Records.{refused_by, register_in, response_number, status_by, timing_number, touched_by, wait_record};
 ghost use Rattle.c_host.specs.Lending.{back_record, lending_record, lent_at, table_at};
 ghost use Rattle.mmc_sdhci.specs.Lending.{Fits, FitsTable};
 ghost use Rattle.mmc_card.specs.CardAnswer.{Silent};
@@ -53,6 +53,9 @@ const TAKE_BACK: u8 = 17;
 
 /// The table of the lines that were told is wanted where the controller can read it.
 pub const LEND_TABLE: u8 = 18;
+
+// Until an interrupt comes, or so many microseconds have passed.
+const WAIT: u8 = 19;
 
 // The kind of a response, as a number for C.
 fn response_number(response: Response) -> u8
@@ -298,4 +301,13 @@ pub fn back_record(lent: Lent) -> [u8; 6]
     let [a, b] = lent.count;
     let [c, d] = lent.table.to_le_bytes();
     [TAKE_BACK, u8::from(lent.is_room), a, b, c, d]
+}
+
+/// The record that it is waited for one of these interrupts, or so many microseconds.
+pub fn wait_record(interrupts: u32, micros: u32) -> [u8; 9]
+    ensures { result ≡ wait_record interrupts micros }
+{
+    let [a, b, c, d] = interrupts.to_le_bytes();
+    let [e, f, g, h] = micros.to_le_bytes();
+    [WAIT, a, b, c, d, e, f, g, h]
 }

@@ -1,6 +1,6 @@
 // Registers of an SD host controller that C reads and writes.
 ghost use Rattle.std.specs.Prelude.{◌≡◌, ◌∷◌, None, length, false, true};
-ghost use Rattle.mmc_sdhci.specs.Accesses.{Passes, Reads, Reads8, Writes, Writes8};
+ghost use Rattle.mmc_sdhci.specs.Accesses.{Passes, Reads, Reads8, Stays, Writes, Writes8};
 ghost use Rattle.mmc_sdhci.specs.Beside.{untold};
 ghost use Rattle.mmc_sdhci.specs.Driver.{unkept_controller};
 ghost use Rattle.mmc_sdhci.specs.Controller.{Settled};
@@ -10,7 +10,7 @@ ghost use Rattle.mmc_sdhci.specs.Moving.{Puts, Takes};
 ghost use Rattle.c_host.specs.Talk.Talk.{Told};
 ghost use Rattle.c_host.specs.Lending.{TellsLending, TellsTable, TellsTaking, lent_by, size_of_table, taken_back};
 ghost use Rattle.c_host.specs.Registers.{ReadsByte, ReadsWord, WritesByte, WritesWord};
-ghost use Rattle.c_host.specs.Told.{TellsPause, TellsPort};
+ghost use Rattle.c_host.specs.Told.{TellsPause, TellsPort, TellsWait};
 
 use crate::kinds::Kinds;
 use crate::lending::Lent;
@@ -31,6 +31,8 @@ pub struct CRegisters {
     pub is_by_words: bool,
     /// Whether C lends memory for DMA at all.
     pub lends: bool,
+    /// Whether C waits for interrupts.
+    pub waits: bool,
     /// How many bytes a table may have.
     pub room: u16,
     /// The kinds of card that are served.
@@ -260,5 +262,19 @@ impl Registers for CRegisters {
         ensures same { self.new ≡ record self.old { stream = self.new.stream } }
     {
         self.stream.pause(micros);
+    }
+
+    fn can_wait(&self) -> bool
+        ensures { result ≡ self.now.waits }
+    {
+        self.waits
+    }
+
+    fn wait(&mut self, interrupts: u32, micros: u32)
+        ensures stays { Stays unkept_controller unkept_controller }
+        ensures told { TellsWait interrupts micros self.old.stream.diary.past self.new.stream.diary.past }
+        ensures same { self.new ≡ record self.old { stream = self.new.stream } }
+    {
+        self.stream.wait(interrupts, micros);
     }
 }

@@ -7,7 +7,7 @@ ghost use Rattle.c_host.specs.Talk.{last_answer};
 ghost use Rattle.c_host.specs.Records.{command_record, failed_by, good_by};
 ghost use Rattle.c_host.specs.Records.{heard_by, ios_record, is_word, moved_by};
 ghost use Rattle.c_host.specs.Records.{after_record, power_record, refused_by, touched_by, with_record};
-ghost use Rattle.c_host.specs.Told.{TellsCommand, TellsIos, TellsLook, TellsPause, TellsPort, TellsRead, TellsReadWith, TellsWrite};
+ghost use Rattle.c_host.specs.Told.{TellsCommand, TellsIos, TellsLook, TellsPause, TellsPort, TellsRead, TellsReadWith, TellsWait, TellsWrite};
 ghost use Rattle.c_host.specs.Told.{TellsWriteWith};
 ghost use Rattle.c_host.specs.Lending.{back_record, lending_record, with_lines};
 ghost use Rattle.mmc_sdhci.specs.Tables.{bytes_of, lines_for};
@@ -20,7 +20,7 @@ use crate::lending::Lent;
 use crate::records::{
     AFTER, Answer, LEND_TABLE, LOOK, PAUSE, POWER, READ_REGISTER, READ_WITH, WRITE_REGISTER,
     WRITE_WITH, back_record, command_record, failed_by, good_by, heard_by, ios_record, is_word,
-    lending_record, moved_by, refused_by, status_by, touched_by,
+    lending_record, moved_by, refused_by, status_by, touched_by, wait_record,
 };
 use mmc_bus::{BlocksMut, Moved};
 use mmc_card::{DataIn, DataOut};
@@ -235,6 +235,14 @@ impl Stream {
     {
         let [a, b, c, d] = micros.to_le_bytes();
         self.tell(&[PAUSE, a, b, c, d]);
+    }
+
+    /// Waits for one of these bits of Interrupt Status, or so many microseconds.
+    pub fn wait(&mut self, interrupts: u32, micros: u32)
+        ensures told { TellsWait interrupts micros self.old.diary.past self.new.diary.past }
+        ensures same { self.new.number ≡ self.old.number }
+    {
+        self.tell(&wait_record(interrupts, micros));
     }
 
     /// Reads a register of so many bytes, 1 or 4.

@@ -128,18 +128,18 @@ tells_none answer (Ok did) number Same told none refused unmade =
     refused_only (answer did) Same (ap (λ (n : ℤ). is_attempted n) (sym told) ∙ unmade) refused
 
 -- and otherwise what came of the attempts
-pub tells_counts : {A : Type 0} (answer : A → Result Unit NotDone) (stands : Stands) (old : Healed) (called : Result A ℤ)
+pub tells_counts : {A : Type 0} (answer : A → Result Unit NotDone) (most : ℕ) (stands : Stands) (old : Healed) (called : Result A ℤ)
     (number : ℤ) (note : CardRecord) (new : Healed)
     → IfOk called (λ did. number ≡ answer_number (answer did)) → IfErr called (λ other. number ≡ other)
     → IfErr called (λ other. is_attempted other ≡ false)
-    → IfOk called (λ did. IfServed (answer did) (IsCounted stands old (answer did) note new))
-    → TellsCounts stands old number note new
-tells_counts answer stands old (Err not) number note new told other none counts = λ made.
+    → IfOk called (λ did. IfServed (answer did) (IsCounted most stands old (answer did) note new))
+    → TellsCounts most stands old number note new
+tells_counts answer most stands old (Err not) number note new told other none counts = λ made.
     absurd (false≢true (sym none ∙ ap (λ (n : ℤ). is_attempted n) (sym other) ∙ made))
-tells_counts answer stands old (Ok did) number note new told other none counts = λ made. (
+tells_counts answer most stands old (Ok did) number note new told other none counts = λ made. (
   answer did,
   told,
-  served_only (answer did) (IsCounted stands old (answer did) note new) (ap (λ (n : ℤ). is_attempted n) (sym told) ∙ made) counts,
+  served_only (answer did) (IsCounted most stands old (answer did) note new) (ap (λ (n : ℤ). is_attempted n) (sym told) ∙ made) counts,
 )
 
 -- who is found by the record stands as was noted

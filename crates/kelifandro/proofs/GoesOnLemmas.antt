@@ -1,5 +1,5 @@
 -- A request of C, with what its host did in it, is one call more of a history.
-use Rattle.std.proofs.Common.{◌&&◌, ◌∙◌, ◌≡◌, [], Bool, List, ap, false, inl, inr, length, not, refl, subst, sym, true, ℤ}
+use Rattle.std.proofs.Common.{◌&&◌, ◌∙◌, ◌≡◌, [], Bool, List, ap, false, inl, inr, length, not, refl, subst, sym, true, ℕ, ℤ}
 use Rattle.std.proofs.lemmas.Bool.{false≢true}
 use Rattle.std.specs.Prelude.{Err, IfErr, IfOk, Ok, Result, is_err, is_some}
 use Rattle.mmc_bus.specs.declared.wire.Wire.{Wire}
@@ -135,7 +135,7 @@ module _ (asked : Asked) (before after : List Sector) (were : AreSectors before)
   }
 
   -- a request was served over a bus, to its end
-  module _ (law : ServesAlone) (rests : (card : Card) → card.values ≡ [] → AreDecided (holds card)) (answer : Result Unit NotDone)
+  module _ (attempts : ℕ) (law : ServesAlone) (rests : (card : Card) → card.values ≡ [] → AreDecided (holds card)) (answer : Result Unit NotDone)
       (unrefused : (why : Refused) → answer ≡ Err (RefusedFor why) → ⊥) (left : HostView) (wire : Wire) (misused : Bool)
       (Has : Sets → Type 0) (has : (sets : Sets) → Has sets → is_read asked.kind ≡ true → AreRead sets asked.part asked.start after) where
     abbrev end : BusView
@@ -146,7 +146,7 @@ module _ (asked : Asked) (before after : List Sector) (were : AreSectors before)
 
     over_the_bus : misused ≡ false → IsLeft (answer ≡ Ok tt) left now → is_note note ≡ true
         → (end.is_kept ≡ true → was.is_kept ≡ true)
-        → ((how : Stands) → IsNoteOf how note → IsServed (Serves (change (info_of how)) Has) how was answer new end)
+        → ((how : Stands) → IsNoteOf how note → IsServed (Serves attempts (change (info_of how)) Has) how was answer new end)
         → GoesOn (Served (told_by (answer_number answer))) was note now new
     over_the_bus unmisused l open_card was_kept serves =
         let kept : end.is_kept ≡ true = both left.is_kept misused l.was_kept unmisused in
@@ -194,7 +194,7 @@ module _ (asked : Asked) (before after : List Sector) (were : AreSectors before)
         }
 
   -- whatever became of it
-  module _ {B H : Type 0} (law : ServesAlone) (rests : (card : Card) → card.values ≡ [] → AreDecided (holds card))
+  module _ {B H : Type 0} (attempts : ℕ) (law : ServesAlone) (rests : (card : Card) → card.values ≡ [] → AreDecided (holds card))
       (left : B → HostView) (wire : B → Wire) (misused : B → Bool) (host : H → HostView) (Has : Sets → Type 0)
       (has : (sets : Sets) → Has sets → is_read asked.kind ≡ true → AreRead sets asked.part asked.start after) where
     abbrev view : B → BusView
@@ -202,7 +202,7 @@ module _ (asked : Asked) (before after : List Sector) (were : AreSectors before)
 
     abbrev Serving : Stands → Result Unit NotDone → B → Type 0
     Serving how answer bus =
-        IsServed (Serves (change_by asked.kind (info_of how) asked.part asked.start asked.count before) Has) how was answer new (view bus)
+        IsServed (Serves attempts (change_by asked.kind (info_of how) asked.part asked.start asked.count before) Has) how was answer new (view bus)
 
     by_left : (answer : Result Unit NotDone) (end : Result B H) → now.is_kept ≡ true → is_note note ≡ true
         → (is_attempted (answer_number answer) ≡ false → after ≡ before)
@@ -228,7 +228,7 @@ module _ (asked : Asked) (before after : List Sector) (were : AreSectors before)
         old.stands))
     by_left answer (Ok bus) is open_card unread refused refuses told ends was_kept serves notes =
         let e = ends is in
-        over_the_bus law rests answer (λ why e. false≢true (refused ∙ ap (λ a. is_some (refusal_in a)) e)) (left bus) (wire bus)
+        over_the_bus attempts law rests answer (λ why e. false≢true (refused ∙ ap (λ a. is_some (refusal_in a)) e)) (left bus) (wire bus)
         (misused bus) Has has e.0 e.1 open_card was_kept serves
 
     pub goes_on : {A : Type 0} (answer : A → Result Unit NotDone) (end : A → Result B H) (called : Result A ℤ)

@@ -1,6 +1,6 @@
 -- What serving those in service, and its end, make of what a queue keeps true.
 use Rattle.std.proofs.Common.{append-nil}
-use Rattle.std.proofs.Common.{◌++◌, ◌-◌, ◌<◌, ◌∙◌, ◌≡◌, ◌≤◌, ◌∷◌, ◌||◌, ◌⊎◌, Bool, List, None, Some, [], ap, arith, cond, false, inl, inr, length, map, refl, subst, sym, true, ℕ, ℤ}
+use Rattle.std.proofs.Common.{◌++◌, ◌-◌, ◌<◌, ◌∙◌, ◌≡◌, ◌≢◌, ◌≤◌, ◌∷◌, ◌||◌, ◌⊎◌, Bool, List, None, Some, [], ap, arith, cond, false, inl, inr, length, map, refl, subst, sym, true, ℕ, ℤ}
 use Rattle.std.specs.Prelude.{nat_le, negsuc, pos}
 use Rattle.std.proofs.lemmas.Bool.{true≢false}
 use Rattle.std.proofs.lemmas.Bool.Decides.{nat_tests}
@@ -46,9 +46,10 @@ use Rattle.mmc_block.specs.declared.completion.Answer.TheVariants as Gave
 use Rattle.mmc_block.specs.declared.completion.Completion.{Completion}
 use Rattle.mmc_slots.specs.Served.{IsAnswered, IsSplit}
 use Rattle.mmc_slots.specs.Slots.{AreOrdered, Memory, entries_in}
+use Rattle.mmc_slots.specs.Work.{work_left}
 use Rattle.mmc_slots.specs.declared.slot.Slot.{Slot}
 use Rattle.mmc_slots.specs.declared.slot.TheConstants.{ALONE, TOGETHER}
-use Rattle.mmc_turns.specs.Serving.{BlocksAreTheirs, EndAgrees, HoldTheirs, TurnAgrees, bytes_of_each, group_of, room_of_each}
+use Rattle.mmc_turns.specs.Serving.{AreJoined, BlocksAreTheirs, EndAgrees, HoldTheirs, TurnAgrees, bytes_of_each, group_of, room_of_each}
 use Rattle.kelifandro.specs.Answers.{cause_number}
 use Rattle.kelifandro.specs.Asked.{asked_by}
 use Rattle.kelifandro.specs.Calls.{is_attempted}
@@ -322,3 +323,20 @@ module _ (theirs : BlocksAreTheirs) (ends : EndAgrees) (sees : ClientsSeeEach) (
   concludes true which answered split = answered_by (tells_done number) refl which (answered refl)
   concludes false which answered split =
       is_split (later (tells_done number) (nat_le (length (entries_in lent TOGETHER old)) 1) which).1 (split refl)
+
+-- The end leaves less to do.
+
+unless_few : (n : ℕ) (Alone : Type 0) (done : Bool) → (n ≤ 1) ⊎ Alone → (done || nat_le n 1) ≡ false → Alone
+unless_few n Alone true few is = absurd cc
+unless_few n Alone false (inl low) is = absurd (grind (arith, low, is))
+unless_few n Alone false (inr alone) is = alone
+
+pub ends_less : (lent : Memory) (old new : List Slot) (extent : Extent) (result done : Bool) → AreJoined lent old extent
+    → (length (entries_in lent TOGETHER old) ≤ 1) ⊎ (entries_in lent ALONE old ≡ [])
+    → result ≡ (done || nat_le (length (entries_in lent TOGETHER old)) 1)
+    → (entries_in lent TOGETHER old ≢ [] → (result ≡ false → entries_in lent ALONE old ≡ []) → work_left new < work_left old)
+    → work_left new < work_left old
+ends_less lent old new extent result done joined few which less =
+    let some = (joined lent (λ t. refl)).some in
+    less (λ none. let zero = ap length none in omega (arith, some, zero))
+    (λ failed. unless_few (length (entries_in lent TOGETHER old)) (entries_in lent ALONE old ≡ []) done few (sym which ∙ failed))

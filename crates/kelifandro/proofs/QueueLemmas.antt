@@ -1,5 +1,5 @@
 -- What the calls of a queue make of what it keeps true.
-use Rattle.std.proofs.Common.{◌++◌, ◌+◌, ◌∙◌, ◌==◌, ◌≡◌, ◌≢◌, ◌≤◌, ◌∷◌, List, None, Option, Some, [], ap, arith, inl, length, map, refl, subst, sym, true, ℕ}
+use Rattle.std.proofs.Common.{◌++◌, ◌+◌, ◌<◌, ◌∙◌, ◌==◌, ◌≡◌, ◌≢◌, ◌≤◌, ◌∷◌, List, None, Option, Some, [], ap, arith, inl, length, map, refl, subst, sym, true, ℕ}
 use Rattle.std.specs.Prelude.{Bool, Contains, Err, IfErr, IfOk, Ok, OnErr, OnOk, Result, false, if◌then◌else◌, is_err, is_ok, is_some, suc, zero}
 use Rattle.std.proofs.lemmas.Bool.{true≢false}
 use Rattle.std.proofs.lemmas.Bool.Decides.{nat_tests}
@@ -25,6 +25,7 @@ use Rattle.mmc_block.specs.Machine.{IsMerged, Machine, Waiting}
 use Rattle.mmc_slots.specs.Accepted.{entry_with, refusal}
 use Rattle.mmc_slots.specs.Cancelled.{IsWhy}
 use Rattle.mmc_slots.specs.Slots.{AreOrdered, AscendWithin, Memory, entries_in, entry_of, request_by, request_of, taken}
+use Rattle.mmc_slots.specs.Work.{work_left}
 use Rattle.mmc_slots.specs.declared.cancellation.CancelFault.{CancelFault}
 use Rattle.mmc_slots.specs.declared.cancellation.CancelFault.TheVariants as fault
 use Rattle.mmc_slots.specs.declared.slot.Slot.{Slot}
@@ -359,6 +360,13 @@ begins sees limits start now calls replies lent old new extent next serving aske
     subst (λ a. KeepsQueue limits start now calls replies lent new next (Some a) opened) (sym is)
     (starts sees limits start now calls replies lent old new extent next opened keeps
     (begun (info_of keeps.how) keeps.machine keeps.agrees keeps.serves))
+
+-- It leaves less to do.
+pub begins_less : (lent : Memory) (old new : List Slot) (next : ℕ) (serving : Option Asked) → is_some serving ≡ false
+    → IsServing lent old serving → AreOrdered next old
+    → (AreOrdered next old → entries_in lent TOGETHER old ≡ [] → work_left new < work_left old) → work_left new < work_left old
+begins_less lent old new next serving none serves ordered less =
+    less ordered (subst (IsServing lent old) (none_is serving none) serves)
 
 -- At first.
 

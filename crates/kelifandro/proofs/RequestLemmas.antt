@@ -9,9 +9,6 @@ use Rattle.mmc_bus.specs.Lending.{IsRewritten}
 use Rattle.mmc_bus.specs.Lending.IsRewritten.{block, nothing}
 use Rattle.mmc_card.specs.Sectors.{AreRead, Sector, Sets}
 use Rattle.mmc_card.specs.declared.part.Part.{Part}
-use Rattle.mmc_requests.specs.declared.asked.Asked.{Asked}
-use Rattle.kelifandro.specs.Asked.{kind_with, named_by}
-use Rattle.kelifandro.specs.declared.asked.AskedRecord.{AskedRecord}
 use Rattle.mmc_switch.specs.declared.broken.Broken.{Broken}
 use Rattle.mmc_switch.specs.declared.session.Session.{Session}
 
@@ -36,21 +33,21 @@ pub shows_none : (result : Result Session Broken) (reads : Bool) (Holds : Sessio
 shows_none (Ok session) reads Holds none = λ is. absurd (false≢true (sym none ∙ is))
 shows_none (Err broken) reads Holds none = tt
 
--- what a record asks for, once its partition is found
-pub named_as : (given : AskedRecord) (found : Option Part) (asked : Asked) (part : Part)
-    → Some asked ≡ option_map (named_by given) found → found ≡ Some part → asked ≡ named_by given part
-named_as given None asked part is found = absurd cc
-named_as given (Some other) asked part is found =
-    let named : asked ≡ named_by given other = cc in
+-- what a record means, once its partition is found
+pub meant_as : {A : Type 0} (named : Part → A) (found : Option Part) (meant : A) (part : Part)
+    → Some meant ≡ option_map named found → found ≡ Some part → meant ≡ named part
+meant_as named None meant part is found = absurd cc
+meant_as named (Some other) meant part is found =
+    let was : meant ≡ named other = cc in
     let same : other ≡ part = cc in
-    named ∙ ap (named_by given) same
+    was ∙ ap named same
 
--- and whatever that is, it does what the record says
-pub named_kind : (given : AskedRecord) (found : Option Part) (asked : Asked) → Some asked ≡ option_map (named_by given) found
-    → asked.kind ≡ kind_with given.kind
-named_kind given None asked is = absurd cc
-named_kind given (Some part) asked is =
-    let named : asked ≡ named_by given part = cc in ap (λ (a : Asked). a.kind) named
+-- and what is so of any partition is so of that
+pub meant_so : {A : Type 0} (Holds : A → Type 0) (named : Part → A) (found : Option Part) (meant : A)
+    → Some meant ≡ option_map named found → ((part : Part) → Holds (named part)) → Holds meant
+meant_so Holds named None meant is each = absurd cc
+meant_so Holds named (Some part) meant is each =
+    let was : meant ≡ named part = cc in subst Holds (sym was) (each part)
 
 -- a part that is put back as it was leaves the whole as it was
 pub kept_part : {X : Type 0} (from count : ℕ) (blocks part was : List X) → part ≡ mid_of from count blocks → blocks ≡ was

@@ -1,5 +1,5 @@
 -- A request of C: what it asks for, and what comes of it.
-use Rattle.std.specs.Prelude.{◌-◌, ◌<◌, ◌==◌, ◌≡◌, [], List, false, if◌then◌else◌, length, slice_index_or, true, ℕ}
+use Rattle.std.specs.Prelude.{◌-◌, ◌<◌, ◌==◌, ◌≡◌, [], List, false, if◌then◌else◌, length, nat_le, slice_index_or, true, ℕ}
 use Rattle.mmc_card.specs.Sectors.{AreRead, Change, Sector, Sets}
 use Rattle.mmc_card.specs.declared.part.Part.{Part}
 use Rattle.mmc_direct.specs.Asked.{asked_at}
@@ -9,8 +9,10 @@ use Rattle.mmc_requests.specs.Changes.{change_by}
 use Rattle.mmc_requests.specs.Kinds.{is_read, moves_blocks}
 use Rattle.mmc_requests.specs.declared.kind.Kind.{Kind}
 use Rattle.mmc_requests.specs.declared.kind.Kind.TheVariants.{Erase, Read, Trim, Write}
+use Rattle.mmc_requests.specs.declared.limits.TheConstants.{ATTEMPTS, ATTEMPTS_OF_A_GROUP}
 use Rattle.mmc_switch.specs.declared.info.Info.{Info}
 use Rattle.kelifandro.specs.declared.asked.AskedRecord.{AskedRecord}
+use Rattle.kelifandro.specs.declared.asked.Wanted.{Wanted}
 use Rattle.kelifandro.specs.declared.request.CRequest.{CRequest}
 
 -- what is done with the sectors, by its number
@@ -25,9 +27,21 @@ sectors_by kind count blocks = if moves_blocks kind then length blocks else coun
 abbrev pub named_by : AskedRecord → Part → Asked
 named_by request part = asked_at (kind_with request.kind) part request.start request.count
 
+-- how many attempts this number is
+abbrev pub attempts_by : ℕ → ℕ
+attempts_by number = if number == 0 then ATTEMPTS else number
+
+-- what a record wants, of this partition
+abbrev pub wanted_by : AskedRecord → Part → Wanted
+wanted_by request part = record { asked = named_by request part; attempts = request.attempts }
+
 -- what is asked for with these sectors, which some requests are together
 abbrev pub asked_by : Extent → Asked
 asked_by extent = asked_at extent.kind extent.part extent.start (extent.end - extent.start)
+
+-- several that are served together have two attempts, one alone as many as its client's card
+abbrev pub attempts_for : Extent → ℕ
+attempts_for extent = if nat_le extent.members 1 then 0 else ATTEMPTS_OF_A_GROUP
 
 -- what is asked for with this memory
 abbrev pub asked_with : Asked → List Sector → Asked

@@ -45,8 +45,8 @@ abbrev pub TellsWhy : ℕ → Option Refused → ℤ → Type 0
 TellsWhy way None number = way ≡ 0 → is_attempted number ≡ true
 TellsWhy way (Some why) number = (number ≡ pos 0 → ⊥) × (way ≡ 0 → number ≡ refused_number why)
 
--- A request that was attempted is counted by its attempts, whose outcome the number tells.
-abbrev pub TellsCounts : Stands → Healed → ℤ → CardRecord → Healed → Type 0
-TellsCounts stands old number note new =
+-- A request with so many attempts that was attempted is counted by them, whose outcome the number tells.
+abbrev pub TellsCounts : ℕ → Stands → Healed → ℤ → CardRecord → Healed → Type 0
+TellsCounts most stands old number note new =
     is_attempted number ≡ true
-    → (answer : Result Unit NotDone) × (number ≡ answer_number answer) × IsCounted stands old answer note new
+    → (answer : Result Unit NotDone) × (number ≡ answer_number answer) × IsCounted most stands old answer note new

@@ -32,7 +32,7 @@ use Rattle.mmc_slots.specs.declared.slot.Slot.{Slot}
 use Rattle.mmc_slots.specs.declared.slot.TheConstants.{ALONE, TOGETHER, WAITS}
 use Rattle.mmc_turns.specs.Serving.{AsLong, HasStarted, HoldTheirs, bytes_of_each, room_of_each}
 use Rattle.c_host.specs.declared.given.WayRecord.{WayRecord}
-use Rattle.kelifandro.specs.Asked.{asked_by, named_by}
+use Rattle.kelifandro.specs.Asked.{asked_by, attempts_for, named_by}
 use Rattle.kelifandro.specs.Done.{Done, IsTrueOf, Stories, host_after, nothing_done}
 use Rattle.kelifandro.specs.History.{AreSteps, Call, CardHistory}
 use Rattle.kelifandro.specs.declared.asked.AskedRecord.{AskedRecord}
@@ -67,6 +67,7 @@ pub record TellsStarted (info : Info) (memory : Memory) (slots : List Slot) (ask
   pub extent : Extent
   pub part : part_of asked.part ≡ Some extent.part
   pub told : named_by asked extent.part ≡ asked_by extent
+  pub attempts : asked.attempts ≡ attempts_for extent
   pub started : HasStarted info memory slots extent next card machine
 
 -- by ticket

@@ -1,11 +1,12 @@
 // A request, as C tells of it.
-ghost use Rattle.std.specs.Prelude.{◌≡◌, Some, option_map};
+ghost use Rattle.std.specs.Prelude.{◌<◌, ◌≡◌, Some, option_map};
 ghost use Rattle.mmc_record.specs.Numbers.{part_of};
-ghost use Rattle.kelifandro.specs.Asked.{asked_by, kind_with, named_by};
+ghost use Rattle.kelifandro.specs.Asked.{asked_by, attempts_by, attempts_for, kind_with, named_by, wanted_by};
 
 use mmc_bus::Part;
-use mmc_direct::{Asked, Kind};
+use mmc_direct::{ATTEMPTS, Asked, Kind};
 use mmc_record::part_of;
+use mmc_requests::ATTEMPTS_OF_A_GROUP;
 use mmc_slots::Extent;
 use std::mem::size_of;
 
@@ -23,7 +24,18 @@ pub struct AskedRecord {
     /// The partition, by its number.
     pub part: u32,
     /// 0: the sectors are read. 1: they are written. 2: erased. Anything else: trimmed.
-    pub kind: u32,
+    pub kind: u16,
+    /// How many attempts it has, each of which may fail; 0 is four.
+    pub attempts: u16,
+}
+
+/// What is wanted of a card: what is asked for, and in how many attempts at most; 0 is four.
+#[derive(Clone, Copy, Debug, PartialEq, Eq)]
+pub struct Wanted {
+    /// What is asked for.
+    pub asked: Asked,
+    /// The most attempts.
+    pub attempts: u16,
 }
 
 /// The partition with this number.
@@ -37,7 +49,7 @@ pub fn part_with(number: u32) -> Option<Part>
 }
 
 // What is done with the sectors.
-fn kind_with(number: u32) -> Kind
+fn kind_with(number: u16) -> Kind
     ensures { result ≡ kind_with number }
 {
     match number {
@@ -64,7 +76,7 @@ fn part_number(part: Part) -> u32
 }
 
 // The number of what is done with the sectors.
-fn kind_number(kind: Kind) -> u32
+fn kind_number(kind: Kind) -> u16
     ensures { kind_with result ≡ kind }
 {
     match kind {
@@ -72,6 +84,18 @@ fn kind_number(kind: Kind) -> u32
         Kind::Write => 1,
         Kind::Erase => 2,
         Kind::Trim => 3,
+    }
+}
+
+/// How many attempts this number is.
+pub fn attempts_by(number: u16) -> u64
+    ensures attempts { result ≡ attempts_by number }
+    ensures some { 0 < result }
+{
+    if number == 0 {
+        ATTEMPTS
+    } else {
+        u64::from(number)
     }
 }
 
@@ -87,12 +111,25 @@ pub fn asked_by(extent: &Extent) -> Asked
     }
 }
 
-/// What is asked for, as C tells of it.
-pub fn record_of(asked: &Asked) -> AskedRecord
+/// How many attempts these have together: two, where they are several; one alone has as many as its client's card, which is 0.
+pub fn attempts_for(extent: &Extent) -> u16
+    ensures { result ≡ attempts_for extent.now }
+{
+    if extent.members <= 1 {
+        0
+    } else {
+        ATTEMPTS_OF_A_GROUP as u16
+    }
+}
+
+/// What is asked for, in so many attempts, as C tells of it.
+pub fn record_of(asked: &Asked, attempts: u16) -> AskedRecord
     ensures part { part_of result.part ≡ Some asked.now.part }
     ensures asked { named_by result asked.now.part ≡ asked.now }
+    ensures attempts { result.attempts ≡ attempts }
 {
     AskedRecord {
+        attempts,
         start: asked.start,
         count: asked.count,
         part: part_number(asked.part),
@@ -101,16 +138,34 @@ pub fn record_of(asked: &Asked) -> AskedRecord
 }
 
 impl AskedRecord {
+    // What is asked for, of this partition.
+    fn asked_of(&self, part: Part) -> Asked
+        ensures { result ≡ named_by self.now part }
+    {
+        Asked {
+            kind: kind_with(self.kind),
+            part,
+            start: self.start,
+            count: self.count,
+        }
+    }
+
     /// What is asked for; `None` where there is no such partition.
     pub fn asked(&self) -> Option<Asked>
         ensures { result ≡ option_map (named_by self.now) (part_of self.now.part) }
     {
         let part = part_with(self.part)?;
-        Some(Asked {
-            kind: kind_with(self.kind),
-            part,
-            start: self.start,
-            count: self.count,
+        Some(self.asked_of(part))
+    }
+
+    /// What is wanted; `None` where there is no such partition.
+    pub fn wanted(&self) -> Option<Wanted>
+        ensures { result ≡ option_map (wanted_by self.now) (part_of self.now.part) }
+    {
+        let part = part_with(self.part)?;
+        Some(Wanted {
+            asked: self.asked_of(part),
+            attempts: self.attempts,
         })
     }
 }

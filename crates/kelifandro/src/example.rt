@@ -2,6 +2,7 @@
 ghost use Rattle.std.specs.Prelude.{◌≡◌, length, pos};
 ghost use Rattle.kelifandro.specs.Done.{IsTrueOf, stories_of};
 
+use crate::asked::Wanted;
 use crate::history::Card;
 use crate::laws::what_was_written_is_read_back;
 use crate::requests::seen;
@@ -23,17 +24,21 @@ pub fn write_and_read_back<S: HasStory + HasRegisterStory>(
         → IsTrueOf (stories_of S.HasStory.story S.HasRegisterStory.story) card.new.way card.new.did → back.new ≡ written.old }
 {
     what_was_written_is_read_back();
-    let writes = Asked {
-        kind: Kind::Write,
-        part,
-        start,
-        count: 0,
+    let writes = Wanted {
+        asked: Asked {
+            kind: Kind::Write,
+            part,
+            start,
+            count: 0,
+        },
+        attempts: 0,
     };
-    let reads = Asked {
-        kind: Kind::Read,
-        part,
-        start,
-        count: 0,
+    let reads = Wanted {
+        asked: Asked {
+            kind: Kind::Read,
+            ..writes.asked
+        },
+        ..writes
     };
     let _before = seen(written);
     card.open();

@@ -10,7 +10,7 @@ ghost use Rattle.mmc_recovery.specs.Healed.{none_met};
 ghost use Rattle.mmc_record.specs.Note.{is_note};
 ghost use Rattle.mmc_record.specs.Numbers.{part_of};
 ghost use Rattle.kelifandro.specs.Answers.{minus, refused_number};
-ghost use Rattle.kelifandro.specs.Asked.{asked_with, kind_with, named_by};
+ghost use Rattle.kelifandro.specs.Asked.{asked_with, attempts_by, kind_with, named_by};
 ghost use Rattle.kelifandro.specs.Calls.{IfMeant, IfNoted, IfOpen, TellsCounts, TellsWhy, is_attempted, is_open};
 ghost use Rattle.kelifandro.specs.Longs.{long_refusal, whole_of};
 
@@ -54,12 +54,12 @@ pub extern "C" fn kelifandro_serve_by(
     ensures judged { IfOpen way.now card.old (λ stands. IfMeant request.now.part (λ part.
         TellsWhy way.now.by (refusal_of (info_of stands) (asked_with (named_by request.now part) blocks.old)) result)) }
     ensures uncounted { is_attempted result ≡ false → healed.new ≡ healed.old }
-    ensures counted { IfNoted card.old (λ stands. TellsCounts stands healed.old result card.new healed.new) }
+    ensures counted { IfNoted card.old (λ stands. TellsCounts (attempts_by request.now.attempts) stands healed.old result card.new healed.new) }
     ensures unread { is_attempted result ≡ false → blocks.new ≡ blocks.old }
     ensures kept { is_read (kind_with request.now.kind) ≡ false → blocks.new ≡ blocks.old }
 {
-    match request.asked() {
-        Some(asked) => serve_told::<Brand>(way, card, healed, &asked, blocks, &mut Did::new()),
+    match request.wanted() {
+        Some(wanted) => serve_told::<Brand>(way, card, healed, &wanted, blocks, &mut Did::new()),
         None => NO_PARTITION,
     }
 }
@@ -84,12 +84,12 @@ pub extern "C" fn kelifandro_serve_long_by(
     ensures less { is_attempted result ≡ true → (result ≡ pos 0 → ⊥) → done.new < length blocks.old }
     ensures kept { is_read (kind_with request.now.kind) ≡ false → blocks.new ≡ blocks.old }
 {
-    match request.asked() {
-        Some(asked) => serve_long::<Brand>(
+    match request.wanted() {
+        Some(wanted) => serve_long::<Brand>(
             way,
             card,
             healed,
-            &asked,
+            &wanted,
             blocks,
             done,
             &mut Did::new(),

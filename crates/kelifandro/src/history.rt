@@ -2,6 +2,7 @@
 // export makes, and no other: for auditors.
 ghost use Rattle.kelifandro.specs.History.Call.{Closed, Opened, Served};
 
+use crate::asked::Wanted;
 use crate::did::Did;
 use crate::hosts::switch_off;
 use crate::noting::{Called, Closing, Opening, Serving, Shown};
@@ -9,7 +10,6 @@ use crate::opening::open_by;
 use crate::requests::serve_told;
 use c_host::WayRecord;
 use ghost_diary::Seen;
-use mmc_direct::Asked;
 use mmc_record::CardRecord;
 use mmc_recovery::Healed;
 use mmc_story::HasStory;
@@ -76,21 +76,21 @@ impl<S: HasStory + HasRegisterStory> Card<S> {
     }
 
     /// Serves a request with this memory.
-    pub fn serve(&mut self, asked: &Asked, blocks: &mut [[u8; 512]]) -> i32
+    pub fn serve(&mut self, wanted: &Wanted, blocks: &mut [[u8; 512]]) -> i32
         ensures continues { Continues (stories_of S.HasStory.story S.HasRegisterStory.story) self.old
-            (Served (record { asked = asked.now; before = blocks.old; after = blocks.new; number = result })) self.new }
+            (Served (record { asked = wanted.now.asked; before = blocks.old; after = blocks.new; number = result })) self.new }
     {
         let before = Seen::of(&Shown { blocks });
         let number = serve_told::<S>(
             &self.way,
             &mut self.card,
             &mut self.healed,
-            asked,
+            wanted,
             blocks,
             &mut self.did,
         );
         self.calls = self.calls.then(&Serving {
-            asked,
+            asked: &wanted.asked,
             before: &before,
             after: blocks,
             number,

@@ -8,6 +8,7 @@ ghost use Rattle.kelifandro.specs.Done.{IsFit, done_of, stories_of};
 ghost use Rattle.kelifandro.specs.Longs.{begins_by, long_refusal, longest, whole_of};
 
 use crate::answers::{DONE, NOT_OPEN, refused_number};
+use crate::asked::Wanted;
 use crate::calls::open_card;
 use crate::did::Did;
 use crate::requests::serve_told;
@@ -37,7 +38,7 @@ fn serve_parts<S: HasStory + HasRegisterStory>(
     way: &WayRecord,
     card: &mut CardRecord,
     healed: &mut Healed,
-    asked: &Asked,
+    wanted: &Wanted,
     blocks: &mut [[u8; 512]],
     done: &mut u64,
     did: &mut Did,
@@ -47,7 +48,7 @@ fn serve_parts<S: HasStory + HasRegisterStory>(
     ensures within { done.new ≤ length blocks.old }
     ensures whole { result ≡ pos 0 → done.new ≡ length blocks.old }
     ensures less { (result ≡ pos 0 → ⊥) → done.new < length blocks.old }
-    ensures kept { is_read asked.now.kind ≡ false → blocks.new ≡ blocks.old }
+    ensures kept { is_read wanted.now.asked.kind ≡ false → blocks.new ≡ blocks.old }
     ensures fit_again { IsFit (stories_of S.HasStory.story S.HasRegisterStory.story) way.now (done_of did.new) card.new }
 {
     let count = blocks.len() as u64;
@@ -55,11 +56,13 @@ fn serve_parts<S: HasStory + HasRegisterStory>(
     while *done < count {
         let first = *done as usize;
         let some = (count - *done).min(u64::from(most)) as u32;
-        let part = Asked {
-            kind: asked.kind,
-            part: asked.part,
-            start: asked.start.saturating_add(*done),
-            count: u64::from(some),
+        let part = Wanted {
+            asked: Asked {
+                start: wanted.asked.start.saturating_add(*done),
+                count: u64::from(some),
+                ..wanted.asked
+            },
+            attempts: wanted.attempts,
         };
         let memory = &mut blocks[first..first + some as usize];
         let number = serve_told::<S>(way, card, healed, &part, memory, did);
@@ -104,30 +107,28 @@ pub fn serve_long<S: HasStory + HasRegisterStory>(
     way: &WayRecord,
     card: &mut CardRecord,
     healed: &mut Healed,
-    asked: &Asked,
+    wanted: &Wanted,
     blocks: &mut [[u8; 512]],
     done: &mut u64,
     did: &mut Did,
 ) -> i32
     requires fit { IsFit (stories_of S.HasStory.story S.HasRegisterStory.story) way.now (done_of did.old) card.old }
     ensures not_open { is_open way.now card.old ≡ false → (result ≡ minus 1) × (done.new ≡ 0) }
-    ensures refused { IfOpen way.now card.old (λ stands. IfSome (long_refusal (info_of stands) (whole_of asked.now blocks.old)) (λ why.
+    ensures refused { IfOpen way.now card.old (λ stands. IfSome (long_refusal (info_of stands) (whole_of wanted.now.asked blocks.old)) (λ why.
         (result ≡ refused_number why) × (done.new ≡ 0) × (blocks.new ≡ blocks.old) × (healed.new ≡ healed.old))) }
     ensures within { done.new ≤ length blocks.old }
     ensures whole { result ≡ pos 0 → done.new ≡ length blocks.old }
     ensures less { is_attempted result ≡ true → (result ≡ pos 0 → ⊥) → done.new < length blocks.old }
-    ensures kept { is_read asked.now.kind ≡ false → blocks.new ≡ blocks.old }
+    ensures kept { is_read wanted.now.asked.kind ≡ false → blocks.new ≡ blocks.old }
     ensures fit_again { IsFit (stories_of S.HasStory.story S.HasRegisterStory.story) way.now (done_of did.new) card.new }
 {
     *done = 0;
     let whole = Asked {
-        kind: asked.kind,
-        part: asked.part,
-        start: asked.start,
         count: blocks.len() as u64,
+        ..wanted.asked
     };
     match may_begin(way, card, &whole) {
         Err(number) => number,
-        Ok(()) => serve_parts::<S>(way, card, healed, asked, blocks, done, did),
+        Ok(()) => serve_parts::<S>(way, card, healed, wanted, blocks, done, did),
     }
 }

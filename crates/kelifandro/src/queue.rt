@@ -1,7 +1,7 @@
 // The calls of a queue at a card of C's, one after the other, with the history of what they came to, which only proofs see. Each makes the
 // call that C's export makes, and no other: for auditors. What C does between them stands as what they presume.
 use crate::answers::NOT_OPEN;
-use crate::asked::asked_by;
+use crate::asked::{Wanted, asked_by};
 use crate::did::Did;
 use crate::history::Card;
 use crate::noting::{Called, Memory};
@@ -118,7 +118,9 @@ impl<'a, S: HasStory + HasRegisterStory> Queue<'a, S> {
 }
 
 impl<S: HasStory + HasRegisterStory> Queue<'_, S> {
-    ghost use Rattle.std.specs.Prelude.{◌∷◌, ◌≡◌, ◌≤◌, [], Ok, Result, pos};
+    ghost use Rattle.std.specs.Prelude.{◌<◌, ◌∷◌, ◌≡◌, ◌≤◌, [], Ok, Result, pos, true};
+    ghost use Rattle.mmc_slots.specs.Work.{work_left};
+    ghost use Rattle.kelifandro.specs.Done.{IsTrueOf, stories_of};
     ghost use Rattle.mmc_block.specs.Clients.Told.{Submitted};
     ghost use Rattle.mmc_slots.specs.Slots.{request_by};
     ghost use Rattle.mmc_slots.specs.declared.cancellation.CancelFault.{CancelFault};
@@ -190,7 +192,9 @@ impl<S: HasStory + HasRegisterStory> Queue<'_, S> {
     /// Lets what is served next go into service, of so many sectors together at most, where nothing is; whether there is something.
     pub fn start(&mut self, most: u64) -> bool
         requires limit { most ≤ MAX_COUNT }
-        ensures { Tells self.old [] self.new }
+        ensures tells { Tells self.old [] self.new }
+        ensures less { IsTrueOf (stories_of S.HasStory.story S.HasRegisterStory.story) self.new.way self.new.did
+            → result ≡ true → work_left self.new.slots < work_left self.old.slots }
     {
         clients_see_each_step();
         if self.serving.is_some() {
@@ -273,12 +277,16 @@ impl<'a, S: HasStory + HasRegisterStory> Queue<'a, S> {
     ghost use Rattle.std.specs.Prelude.{◌≡◌, IfErr, IfOk, IfSome, Some};
     ghost use Rattle.kelifandro.specs.Queues.{AreEnough, AreGathered, IsServedOf, memory_of};
 
-    /// Makes one request of the card for those in service, by the memory of the one that there is, or by memory to which C has copied what
+    /// Makes one request of the card for those in service, in so many attempts (0 is four), by the memory of the one that there is, or by memory to which C has copied what
     /// they write.
     ///
     /// # Errors
     /// Nothing is in service: the queue as it was.
-    pub fn carry_out(self, blocks: &mut [[u8; 512]]) -> Result<Served<'a, S>, Queue<'a, S>>
+    pub fn carry_out(
+        self,
+        blocks: &mut [[u8; 512]],
+        attempts: u16,
+    ) -> Result<Served<'a, S>, Queue<'a, S>>
         requires enough { IfSome self.serving (λ asked. AreEnough asked blocks.old) }
         requires gathered { IfSome self.serving (λ asked. AreGathered (memory_of self.lent) self.slots asked blocks.old) }
         ensures served { IfOk result (λ served. IsServedOf self.entry blocks.new served) }
@@ -305,7 +313,8 @@ impl<'a, S: HasStory + HasRegisterStory> Queue<'a, S> {
         } = self;
         let (mut card, mut healed, mut did) = (card, healed, did);
         let _before = seen(blocks);
-        let number = serve_told::<S>(&way, &mut card, &mut healed, &asked, blocks, &mut did);
+        let wanted = Wanted { asked, attempts };
+        let number = serve_told::<S>(&way, &mut card, &mut healed, &wanted, blocks, &mut did);
         let moved = seen(blocks);
         Ok(Served {
             way,
@@ -327,12 +336,17 @@ impl<'a, S: HasStory + HasRegisterStory> Queue<'a, S> {
 }
 
 impl<'a, S: HasStory + HasRegisterStory> Served<'a, S> {
+    ghost use Rattle.std.specs.Prelude.{◌<◌};
+    ghost use Rattle.mmc_slots.specs.Work.{work_left};
+    ghost use Rattle.kelifandro.specs.Done.{IsTrueOf, stories_of};
     ghost use Rattle.kelifandro.specs.Queues.{AreCopied, TellsEnd, answers_by, ended, memory_of};
 
     /// Ends the service of those in service, in whose memory this lies after C has copied what was read. Whether they have their answers.
     pub fn conclude(self, after: Seen<Lent>) -> (Queue<'a, S>, bool)
         requires copied { AreCopied (memory_of self.lent) (memory_of after) self.slots self.asked self.moved }
-        ensures { TellsEnd self.entry (ended result.1 (answers_by self.entry.number (memory_of after) self.entry.slots)) result.0 }
+        ensures tells { TellsEnd self.entry (ended result.1 (answers_by self.entry.number (memory_of after) self.entry.slots)) result.0 }
+        ensures less { IsTrueOf (stories_of S.HasStory.story S.HasRegisterStory.story) result.0.way result.0.did
+            → work_left result.0.slots < work_left self.entry.slots }
     {
         clients_see_each_step();
         blocks_at_their_places_are_a_groups();

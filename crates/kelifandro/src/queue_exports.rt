@@ -11,7 +11,8 @@ ghost use Rattle.mmc_requests.specs.declared.limits.TheConstants.{MAX_COUNT};
 ghost use Rattle.mmc_slots.specs.Accepted.{entry_with, refusal};
 ghost use Rattle.mmc_slots.specs.Cancelled.{IsWhy};
 ghost use Rattle.mmc_slots.specs.Served.{IsAnswered, IsSplit};
-ghost use Rattle.mmc_slots.specs.Slots.{Memory, entries_in, entry_of, taken};
+ghost use Rattle.mmc_slots.specs.Slots.{AreOrdered, Memory, entries_in, entry_of, taken};
+ghost use Rattle.mmc_slots.specs.Work.{work_left};
 ghost use Rattle.mmc_slots.specs.Started.{IsIdle};
 ghost use Rattle.mmc_slots.specs.declared.cancellation.CancelFault.{CancelFault};
 ghost use Rattle.mmc_slots.specs.declared.slot.Slot.{Slot};
@@ -25,7 +26,7 @@ ghost use Rattle.kelifandro.specs.Calls.{IfMeant, IfNoted};
 ghost use Rattle.kelifandro.specs.Queues.{TellsStarted};
 
 use crate::answers::{NO_PARTITION, NOT_OPEN};
-use crate::asked::{AskedRecord, asked_by, record_of};
+use crate::asked::{AskedRecord, asked_by, attempts_for, record_of};
 use crate::queues::{cancelled_number, submitted_number};
 use mmc_direct::{Asked, Stands, stands_by};
 use mmc_record::CardRecord;
@@ -44,6 +45,7 @@ fn submit_to(
     ensures refused { IfSome (refusal (info_of stands.now) asked.now) (λ why. result ≡ refused_number why) }
     ensures free { refusal (info_of stands.now) asked.now ≡ None → asked.now.start + asked.now.count < 2 ^ 32 → next.old + 1 < 2 ^ 64
         → taken slots.old ≢ slots.old → result ≡ pos 1 }
+    ensures more { result ≡ pos 1 → work_left slots.new ≡ work_left slots.old + 3 }
     ensures waits { result ≡ pos 1 → (memory : Memory)
         → entries_in memory WAITS slots.new ≡ entries_in memory WAITS slots.old ++ entry_with memory client asked.now next.old ∷ [] }
     ensures others { (memory : Memory) (state : ℕ) → state ≢ FREE → state ≢ WAITS
@@ -70,6 +72,7 @@ pub extern "C" fn kelifandro_submit_by(
         IfSome (refusal (info_of stands) (named_by request.now part)) (λ why. result ≡ refused_number why))) }
     ensures free { IfNoted card.now (λ stands. IfMeant request.now.part (λ part. refusal (info_of stands) (named_by request.now part) ≡ None
         → request.now.start + request.now.count < 2 ^ 32 → next.old + 1 < 2 ^ 64 → taken slots.old ≢ slots.old → result ≡ pos 1)) }
+    ensures more { result ≡ pos 1 → work_left slots.new ≡ work_left slots.old + 3 }
     ensures waits { result ≡ pos 1 → IfMeant request.now.part (λ part. (memory : Memory) → entries_in memory WAITS slots.new
         ≡ entries_in memory WAITS slots.old ++ entry_with memory client (named_by request.now part) next.old ∷ []) }
     ensures others { (memory : Memory) (state : ℕ) → state ≢ FREE → state ≢ WAITS
@@ -91,6 +94,7 @@ pub extern "C" fn kelifandro_cancel_by(slots: &mut [Slot], ticket: u64) -> i32
         × Takes (entries_in memory WAITS slots.old) (entry_of memory s) (entries_in memory WAITS slots.new) }
     ensures others { (memory : Memory) (state : ℕ) → state ≢ FREE → state ≢ WAITS
         → entries_in memory state slots.new ≡ entries_in memory state slots.old }
+    ensures less { result ≡ pos 0 → work_left slots.new + 3 ≡ work_left slots.old }
     ensures why { (result ≡ pos 0 → ⊥) → (fault : CancelFault) × IsWhy slots.old ticket fault × (result ≡ cancelled_number (Err fault)) }
     ensures unchanged { (result ≡ pos 0 → ⊥) → slots.new ≡ slots.old }
 {
@@ -102,13 +106,15 @@ pub extern "C" fn kelifandro_cancel_by(slots: &mut [Slot], ticket: u64) -> i32
 pub extern "C" fn kelifandro_start_by(slots: &mut [Slot], most: u64, asked: &mut AskedRecord) -> u8
     ensures idle { (memory : Memory) → (result ≡ 0) ↔ IsIdle memory slots.old }
     ensures nothing { result ≡ 0 → slots.new ≡ slots.old }
+    ensures less { (memory : Memory) (next : ℕ) → AreOrdered next slots.old → entries_in memory TOGETHER slots.old ≡ []
+        → (result ≡ 0 → ⊥) → work_left slots.new < work_left slots.old }
     ensures started { (info : Info) (memory : Memory) (next : ℕ) (card : Sets) (machine : Machine)
         → Agrees info memory slots.old next card machine → next < 2 ^ 64 → most ≤ MAX_COUNT
         → entries_in memory TOGETHER slots.old ≡ [] → (result ≡ 0 → ⊥) → TellsStarted info memory slots.new asked.new next card machine }
 {
     match start(slots, most) {
         Some(extent) => {
-            *asked = record_of(&asked_by(&extent));
+            *asked = record_of(&asked_by(&extent), attempts_for(&extent));
             1
         }
         None => 0,
@@ -122,6 +128,8 @@ pub extern "C" fn kelifandro_conclude_by(slots: &mut [Slot], is_done: u8) -> u8
     ensures done { (is_done ≡ 0 → ⊥) → result ≡ 1 }
     ensures which { (memory : Memory)
         → result ≡ (if not (is_done == 0) || nat_le (length (entries_in memory TOGETHER slots.old)) 1 then 1 else 0) }
+    ensures less { (memory : Memory) → entries_in memory TOGETHER slots.old ≢ []
+        → (result ≡ 0 → entries_in memory ALONE slots.old ≡ []) → work_left slots.new < work_left slots.old }
     ensures answered { result ≡ 1 → (memory : Memory) → IsAnswered memory slots.old slots.new }
     ensures split { result ≡ 0 → (memory : Memory) → entries_in memory ALONE slots.old ≡ [] → IsSplit memory slots.old slots.new }
 {

@@ -11,8 +11,9 @@ ghost use Rattle.mmc_requests.specs.Kinds.{kind_of_how};
 ghost use Rattle.mmc_requests.specs.declared.kind.Kind.TheVariants.{Read, Write};
 ghost use Rattle.mmc_switch.specs.Place.{IsReady};
 ghost use Rattle.mmc_switch.specs.UnderWay.{IsSameSession};
-ghost use Rattle.kelifandro.specs.Asked.{HasBlocks, Leaves, asked_of, change_of};
+ghost use Rattle.kelifandro.specs.Asked.{HasBlocks, Leaves, asked_of, attempts_by, change_of};
 
+use crate::asked::attempts_by;
 use c_host::SectorsMut;
 use mmc_bus::{Bus, Part};
 use mmc_direct::{Asked, Erasing, How, Kind, Reading, Request, Writing};
@@ -29,6 +30,8 @@ pub struct CRequest<'a> {
     pub start: u64,
     /// How many sectors are erased or trimmed.
     pub count: u64,
+    /// The most attempts; 0 is four.
+    pub attempts: u16,
     /// The memory of as many sectors as are moved: what is written, or where what is read is left.
     pub blocks: &'a mut [[u8; 512]],
 }
@@ -121,6 +124,8 @@ impl Request for CRequest<'_> {
 
     ghost asked = { asked_of };
 
+    ghost attempts = { λ request. attempts_by request.attempts };
+
     ghost change = { change_of };
 
     ghost leaves = { Leaves };
@@ -138,6 +143,10 @@ impl Request for CRequest<'_> {
                 self.count
             },
         }
+    }
+
+    fn attempts(&self) -> u64 {
+        attempts_by(self.attempts)
     }
 
     fn run<B: Bus>(&mut self, bus: &mut B, session: Session) -> Result<Session, Broken> {

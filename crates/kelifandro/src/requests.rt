@@ -8,18 +8,18 @@ ghost use Rattle.mmc_direct.specs.Requests.{Serves};
 ghost use Rattle.mmc_direct.specs.Served.{IfRefused, IfServed, refusal_in};
 ghost use Rattle.mmc_host.specs.Hosts.{Where};
 ghost use Rattle.mmc_requests.specs.Kinds.{is_read};
-ghost use Rattle.mmc_requests.specs.declared.limits.TheConstants.{ATTEMPTS};
 ghost use Rattle.mmc_sdhci.specs.Driver.{IsReady};
 ghost use Rattle.mmc_switch.specs.Stands.{info_of};
 ghost use Rattle.c_host.specs.declared.given.WayRecord.{WayRecord};
 ghost use Rattle.kelifandro.specs.Answers.{answer_number, is_unready, minus};
-ghost use Rattle.kelifandro.specs.Asked.{AreWhole, asked_with};
+ghost use Rattle.kelifandro.specs.Asked.{AreWhole, asked_with, attempts_by};
 ghost use Rattle.kelifandro.specs.Calls.{IfNoted, IfOpen, TellsCounts, TellsWhy, is_attempted, is_open};
 ghost use Rattle.kelifandro.specs.Done.{IsFit, IsLeft, IsTrueOf, OnlyTold, TellsUnready, done_of, host_after, stories_of};
 ghost use Rattle.kelifandro.specs.History.Call.{Served};
 ghost use Rattle.kelifandro.specs.History.{GoesOn};
 
 use crate::answers::{NOT_OPEN, answer_number};
+use crate::asked::Wanted;
 use crate::calls::open_card;
 use crate::did::Did;
 use crate::hosts::{CHost, end, end_over, go_back};
@@ -29,7 +29,7 @@ use c_host::WayRecord;
 use ghost_diary::Seen;
 use mmc_block::laws::{a_card_at_rest_is_decided, a_request_alone_is_a_submission_and_a_turn};
 use mmc_bus::Bus;
-use mmc_direct::{Asked, Left, NotDone, Request, serve_over};
+use mmc_direct::{Left, NotDone, Request, serve_over};
 use mmc_host::{Host, HostBus};
 use mmc_record::CardRecord;
 use mmc_recovery::Healed;
@@ -132,16 +132,16 @@ pub fn serve_by<S: HasStory + HasRegisterStory, R: Request>(
     ensures uncounted { IfErr result (λ number. healed.new ≡ healed.old) }
     ensures not_counted { IfOk result (λ did. IfRefused did.answer (healed.new ≡ healed.old)) }
     ensures counted { IfNoted card.old (λ stands. IfOk result (λ did. IfServed did.answer
-        (IsCounted stands healed.old did.answer card.new healed.new))) }
+        (IsCounted (R.attempts request.old) stands healed.old did.answer card.new healed.new))) }
     ensures leaves { R.leaves request.old request.new }
     ensures bounded { IfOk result (λ did. IfOk did.left (λ bus.
-        (⟦<HostBus<CHost<S>> as Bus>⟧.view bus).exchanges ≤ ATTEMPTS * exchanges_of (R.asked request.old))) }
+        (⟦<HostBus<CHost<S>> as Bus>⟧.view bus).exchanges ≤ R.attempts request.old * exchanges_of (R.asked request.old))) }
     ensures untold { IfOk result (λ came. IfErr came.left (λ host. OnlyTold
         (host_after (stories_of S.HasStory.story S.HasRegisterStory.story) way.now (done_of did.old)) (⟦<CHost<S> as Host>⟧.view host))) }
     ensures was_true { IfOk result (λ came. IfOk came.left (λ bus. (⟦<HostBus<CHost<S>> as Bus>⟧.view bus).is_kept ≡ true
         → IsTrueOf (stories_of S.HasStory.story S.HasRegisterStory.story) way.now (done_of did.old))) }
     ensures served { IfNoted card.old (λ stands. IfOk result (λ came. IfOk came.left (λ bus.
-        IsServed (Serves (R.change (info_of stands) request.old) (λ sets. R.has sets request.new)) stands
+        IsServed (Serves (R.attempts request.old) (R.change (info_of stands) request.old) (λ sets. R.has sets request.new)) stands
         (host_after (stories_of S.HasStory.story S.HasRegisterStory.story) way.now (done_of did.old)) came.answer card.new
         (⟦<HostBus<CHost<S>> as Bus>⟧.view bus)))) }
 {
@@ -161,30 +161,30 @@ pub(crate) fn seen(blocks: &[[u8; 512]]) -> Seen<Memory>
     Seen::of(&Shown { blocks })
 }
 
-/// Serves what is asked for, with this memory, after what was done in earlier calls.
+/// Serves what is wanted, with this memory, after what was done in earlier calls.
 pub fn serve_told<S: HasStory + HasRegisterStory>(
     way: &WayRecord,
     card: &mut CardRecord,
     healed: &mut Healed,
-    asked: &Asked,
+    wanted: &Wanted,
     blocks: &mut [[u8; 512]],
     did: &mut Did,
 ) -> i32
     requires fit { IsFit (stories_of S.HasStory.story S.HasRegisterStory.story) way.now (done_of did.old) card.old }
     ensures not_open { is_open way.now card.old ≡ false → result ≡ minus 1 }
     ensures judged { IfOpen way.now card.old (λ stands.
-        TellsWhy way.now.by (refusal_of (info_of stands) (asked_with asked.now blocks.old)) result) }
+        TellsWhy way.now.by (refusal_of (info_of stands) (asked_with wanted.now.asked blocks.old)) result) }
     ensures unready { IfOpen way.now card.old (λ stands. is_unready result ≡ true
         → TellsUnready (stories_of S.HasStory.story S.HasRegisterStory.story) (done_of did.new) result) }
     ensures no_clock { IfOpen way.now card.old (λ stands. is_unready result ≡ true → result ≡ minus 23) }
     ensures uncounted { is_attempted result ≡ false → healed.new ≡ healed.old }
-    ensures counted { IfNoted card.old (λ stands. TellsCounts stands healed.old result card.new healed.new) }
+    ensures counted { IfNoted card.old (λ stands. TellsCounts (attempts_by wanted.now.attempts) stands healed.old result card.new healed.new) }
     ensures untouched { is_attempted result ≡ false → blocks.new ≡ blocks.old }
-    ensures kept { is_read asked.now.kind ≡ false → blocks.new ≡ blocks.old }
+    ensures kept { is_read wanted.now.asked.kind ≡ false → blocks.new ≡ blocks.old }
     ensures length { length blocks.new ≡ length blocks.old }
     ensures fit_again { IsFit (stories_of S.HasStory.story S.HasRegisterStory.story) way.now (done_of did.new) card.new }
     ensures goes_on { IsTrueOf (stories_of S.HasStory.story S.HasRegisterStory.story) way.now (done_of did.new) → GoesOn
-        (Served (record { asked = asked.now; before = blocks.old; after = blocks.new; number = result }))
+        (Served (record { asked = wanted.now.asked; before = blocks.old; after = blocks.new; number = result }))
         (host_after (stories_of S.HasStory.story S.HasRegisterStory.story) way.now (done_of did.old)) card.old
         (host_after (stories_of S.HasStory.story S.HasRegisterStory.story) way.now (done_of did.new)) card.new }
 {
@@ -192,10 +192,11 @@ pub fn serve_told<S: HasStory + HasRegisterStory>(
     a_card_at_rest_is_decided();
     let _before = seen(blocks);
     let mut request = CRequest {
-        kind: asked.kind,
-        part: asked.part,
-        start: asked.start,
-        count: asked.count,
+        kind: wanted.asked.kind,
+        part: wanted.asked.part,
+        start: wanted.asked.start,
+        count: wanted.asked.count,
+        attempts: wanted.attempts,
         blocks,
     };
     let called = serve_by::<S, CRequest<'_>>(way, card, healed, &mut request, did);

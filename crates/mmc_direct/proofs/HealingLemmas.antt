@@ -7,7 +7,6 @@ use Rattle.mmc_switch.specs.declared.broken.Broken.{Broken}
 use Rattle.mmc_switch.specs.declared.session.Session.{Session}
 use Rattle.mmc_direct.specs.Healing.{HasHealed, HasSettled, Heals, after_attempt}
 use Rattle.mmc_direct.specs.Healing.Heals.{again, first}
-use Rattle.mmc_requests.specs.declared.limits.TheConstants.{ATTEMPTS}
 use Rattle.mmc_switch.specs.declared.stands.Stands.{Stands}
 
 pub heals_first : (stands : Stands) (old settled : Healed) (left : Stands) (new : Healed) → HasSettled stands old settled
@@ -27,11 +26,11 @@ pub failed_so : (broken : Broken) (settled counted : Healed) (cause : Cause) →
 failed_so broken settled counted cause why is = is ∙ ap (λ (c : Cause). with_failure c (with_attempt settled)) why
 
 -- a request that is done, or one whose attempts are used up
-pub healed_done : (stands : Stands) (old : Healed) (attempts : ℕ) (session : Session) (new : Healed) → attempts ≤ ATTEMPTS
-    → Heals stands old attempts (Stands.Ready session) new → HasHealed stands old (Stands.Ready session) new
-healed_done stands old attempts session new few heals = record { attempts = attempts; all = few; heals = heals }
+pub healed_done : (most : ℕ) (stands : Stands) (old : Healed) (attempts : ℕ) (session : Session) (new : Healed) → attempts ≤ most
+    → Heals stands old attempts (Stands.Ready session) new → HasHealed most stands old (Stands.Ready session) new
+healed_done most stands old attempts session new few heals = record { attempts = attempts; all = few; heals = heals }
 
-pub healed_in_vain : (stands : Stands) (old : Healed) (attempts : ℕ) (broken : Broken) (new : Healed) → ATTEMPTS ≤ attempts
-    → attempts ≤ ATTEMPTS → Heals stands old attempts (Stands.Broken broken) new → HasHealed stands old (Stands.Broken broken) new
-healed_in_vain stands old attempts broken new least few heals =
+pub healed_in_vain : (most : ℕ) (stands : Stands) (old : Healed) (attempts : ℕ) (broken : Broken) (new : Healed) → most ≤ attempts
+    → attempts ≤ most → Heals stands old attempts (Stands.Broken broken) new → HasHealed most stands old (Stands.Broken broken) new
+healed_in_vain most stands old attempts broken new least few heals =
     record { attempts = attempts; all = omega (arith, least, few); heals = heals }

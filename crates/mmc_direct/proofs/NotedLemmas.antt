@@ -1,5 +1,5 @@
 -- A record notes how a card stands, and a card stands as it is noted.
-use Rattle.std.proofs.Common.{◌&&◌, ◌≡◌, false, refl, subst, sym, true}
+use Rattle.std.proofs.Common.{◌&&◌, ◌≡◌, false, refl, subst, sym, true, ℕ}
 use Rattle.std.proofs.lemmas.Bool.{cond_both, false≢true}
 use Rattle.std.specs.Prelude.{Bool, Err, Ok, Result}
 use Rattle.mmc_frame.specs.declared.kind.Kind.TheVariants.{Mmc}
@@ -66,12 +66,12 @@ broken_noted stands broken note is says view stood =
     }
 
 -- what was counted of a request that isn't refused
-pub counted_by : (stands : Stands) (old : Healed) (answer : Result Unit NotDone) (left : Stands) (note : CardRecord)
-    (new : Healed) → AnswersBy answer left → Notes left note → HasHealed stands old left new
-    → IfServed answer (IsCounted stands old answer note new)
-counted_by stands old (Ok done) left note new fits notes h = record { left = left; fits = fits; notes = notes; healed = h }
-counted_by stands old (Err (RefusedFor why)) left note new fits notes h = tt
-counted_by stands old (Err (Failed cause)) left note new fits notes h =
+pub counted_by : (most : ℕ) (stands : Stands) (old : Healed) (answer : Result Unit NotDone) (left : Stands) (note : CardRecord)
+    (new : Healed) → AnswersBy answer left → Notes left note → HasHealed most stands old left new
+    → IfServed answer (IsCounted most stands old answer note new)
+counted_by most stands old (Ok done) left note new fits notes h = record { left = left; fits = fits; notes = notes; healed = h }
+counted_by most stands old (Err (RefusedFor why)) left note new fits notes h = tt
+counted_by most stands old (Err (Failed cause)) left note new fits notes h =
     record { left = left; fits = fits; notes = notes; healed = h }
 
 -- What a view says of a session lies in its card, its lines and its limits.

@@ -25,32 +25,32 @@ served_as P served result stands answer p =
     subst (λ x. P (record { stands = served.stands; answer = x })) (sym answer)
     (subst (λ x. P (record { stands = x; answer = answer_of result })) (sym stands) p)
 
-served_so : (change : Change) (Has : Sets → Type 0) (old : BusView) (result : Result Session Broken) (new : BusView)
-    → HasTried 4 change old result new → IfOk result (λ session. Has (holds new.card))
-    → Serves change Has old (record { stands = stands_of result; answer = answer_of result }) new
-served_so change Has old (Ok session) new t has = record {
+served_so : (attempts : ℕ) (change : Change) (Has : Sets → Type 0) (old : BusView) (result : Result Session Broken) (new : BusView)
+    → HasTried attempts change old result new → IfOk result (λ session. Has (holds new.card))
+    → Serves attempts change Has old (record { stands = stands_of result; answer = answer_of result }) new
+served_so attempts change Has old (Ok session) new t has = record {
   changed = record { stays = t.stays; stands = t.stands; within = t.within; done = t.done; failed = λ profile. tt };
   has = has;
 }
-served_so change Has old (Err broken) new t has = record {
+served_so attempts change Has old (Err broken) new t has = record {
   changed = record { stays = t.stays; stands = t.stands; within = t.within; done = tt; failed = λ profile. t.fell profile };
   has = tt;
 }
 
--- four attempts, of which the last one came to this
-pub has_served : (change : Change) (Has : Sets → Type 0) (old : BusView) (served : Served) (result : Result Session Broken)
-    (new : BusView) → served.stands ≡ stands_of result → served.answer ≡ answer_of result → HasTried 4 change old result new
-    → IfOk result (λ session. Has (holds new.card)) → Serves change Has old served new
-has_served change Has old served result new stands answer t has =
-    served_as (λ s. Serves change Has old s new) served result stands answer (served_so change Has old result new t has)
+-- so many attempts, of which the last one came to this
+pub has_served : (attempts : ℕ) (change : Change) (Has : Sets → Type 0) (old : BusView) (served : Served) (result : Result Session Broken)
+    (new : BusView) → served.stands ≡ stands_of result → served.answer ≡ answer_of result → HasTried attempts change old result new
+    → IfOk result (λ session. Has (holds new.card)) → Serves attempts change Has old served new
+has_served attempts change Has old served result new stands answer t has =
+    served_as (λ s. Serves attempts change Has old s new) served result stands answer (served_so attempts change Has old result new t has)
 
 -- one that was refused, whose card stays as it was
-pub has_refused : (change : Change) (Has : Sets → Type 0) (view : BusView) (served : Served) (stands : Stands) (why : Refused)
+pub has_refused : (attempts : ℕ) (change : Change) (Has : Sets → Type 0) (view : BusView) (served : Served) (stands : Stands) (why : Refused)
     → served.stands ≡ stands → served.answer ≡ Err (RefusedFor why) → StandsIn stands view
-    → Serves change Has view served view
-has_refused change Has view served stands why left answer at =
-    subst (λ a. Serves change Has view (record { stands = served.stands; answer = a }) view) (sym answer)
-    (subst (λ s. Serves change Has view (record { stands = s; answer = Err (RefusedFor why) }) view) (sym left) (record {
+    → Serves attempts change Has view served view
+has_refused attempts change Has view served stands why left answer at =
+    subst (λ a. Serves attempts change Has view (record { stands = served.stands; answer = a }) view) (sym answer)
+    (subst (λ s. Serves attempts change Has view (record { stands = s; answer = Err (RefusedFor why) }) view) (sym left) (record {
       changed = record {
         stays = stays_same view view.lines;
         stands = at;
@@ -70,10 +70,10 @@ none_changed change new old none within part sector value h =
       | inr k ↦ k
     ]
 
-read_so : (part : Part) (start : ℕ) (blocks : List Sector) (old : BusView) (served : Served) (new : BusView)
-    → Serves (written_at part start []) (λ sets. AreRead sets part start blocks) old served new
-    → HasRead part start blocks old served new
-read_so part start blocks old served new s = record {
+read_so : (attempts : ℕ) (part : Part) (start : ℕ) (blocks : List Sector) (old : BusView) (served : Served) (new : BusView)
+    → Serves attempts (written_at part start []) (λ sets. AreRead sets part start blocks) old served new
+    → HasRead attempts part start blocks old served new
+read_so attempts part start blocks old served new s = record {
   stays = s.changed.stays;
   stands = s.changed.stands;
   narrows = none_changed (written_at part start []) (holds new.card) (holds old.card) refl s.changed.within;
@@ -82,12 +82,12 @@ read_so part start blocks old served new s = record {
 }
 
 -- a read changes no sector, and has what is left in its blocks
-pub has_read : (part left_part : Part) (start left_start : ℕ) (blocks left : List Sector) (old : BusView) (served : Served)
+pub has_read : (attempts : ℕ) (part left_part : Part) (start left_start : ℕ) (blocks left : List Sector) (old : BusView) (served : Served)
     (new : BusView) → left_part ≡ part → left_start ≡ start → left ≡ blocks
-    → Serves (written_at part start []) (λ sets. AreRead sets left_part left_start left) old served new
-    → HasRead part start blocks old served new
-has_read part left_part start left_start blocks left old served new same_part same_start same s =
-    read_so part start blocks old served new
-    (subst (λ p. Serves (written_at part start []) (λ sets. AreRead sets p start blocks) old served new) same_part
-    (subst (λ n. Serves (written_at part start []) (λ sets. AreRead sets left_part n blocks) old served new) same_start
-    (subst (λ xs. Serves (written_at part start []) (λ sets. AreRead sets left_part left_start xs) old served new) same s)))
+    → Serves attempts (written_at part start []) (λ sets. AreRead sets left_part left_start left) old served new
+    → HasRead attempts part start blocks old served new
+has_read attempts part left_part start left_start blocks left old served new same_part same_start same s =
+    read_so attempts part start blocks old served new
+    (subst (λ p. Serves attempts (written_at part start []) (λ sets. AreRead sets p start blocks) old served new) same_part
+    (subst (λ n. Serves attempts (written_at part start []) (λ sets. AreRead sets left_part n blocks) old served new) same_start
+    (subst (λ xs. Serves attempts (written_at part start []) (λ sets. AreRead sets left_part left_start xs) old served new) same s)))

@@ -3,7 +3,6 @@ use Rattle.std.specs.Prelude.{◌+◌, ◌≡◌, ◌≤◌, Bool, false, true, 
 use Rattle.mmc_recovery.specs.Healed.{with_attempt, with_failure, with_settling}
 use Rattle.mmc_recovery.specs.declared.healed.Healed.{Healed}
 use Rattle.mmc_switch.specs.declared.broken.Broken.{Broken}
-use Rattle.mmc_requests.specs.declared.limits.TheConstants.{ATTEMPTS}
 use Rattle.mmc_switch.specs.declared.stands.Stands.{Stands}
 
 -- the card has to be reset
@@ -35,13 +34,13 @@ pub data Heals (stands : Stands) (old : Healed) : ℕ → Stands → Healed → 
       → Heals stands old before (Stands.Broken broken) healed → HasSettled (Stands.Broken broken) healed settled
       → Heals stands old (before + 1) left (after_attempt left settled)
 
--- all attempts were used up where the last one has failed
-abbrev pub AreAll : ℕ → Stands → Type 0
-AreAll attempts (Stands.Ready session) = attempts ≤ ATTEMPTS
-AreAll attempts (Stands.Broken broken) = attempts ≡ ATTEMPTS
+-- of so many attempts all were used up where the last one has failed
+abbrev pub AreAll : ℕ → ℕ → Stands → Type 0
+AreAll most attempts (Stands.Ready session) = attempts ≤ most
+AreAll most attempts (Stands.Broken broken) = attempts ≡ most
 
--- A request that left the card so is counted by its attempts.
-pub record HasHealed (stands : Stands) (old : Healed) (left : Stands) (new : Healed) : Type 0 where
+-- A request that has so many attempts, and left the card so, is counted by those that were made.
+pub record HasHealed (most : ℕ) (stands : Stands) (old : Healed) (left : Stands) (new : Healed) : Type 0 where
   pub attempts : ℕ
-  pub all : AreAll attempts left
+  pub all : AreAll most attempts left
   pub heals : Heals stands old attempts left new

@@ -1,5 +1,5 @@
 -- A record of a card, and the card as it is.
-use Rattle.std.specs.Prelude.{◌≡◌, Result, true}
+use Rattle.std.specs.Prelude.{◌≡◌, Result, true, ℕ}
 use Rattle.mmc_card.specs.BusView.{BusView}
 use Rattle.mmc_card.specs.declared.exchange.Lines.{Lines}
 use Rattle.mmc_direct.specs.Healing.{HasHealed}
@@ -45,13 +45,13 @@ pub record HasServed (Has : Served → Type 0) (answer : Result Unit NotDone) (n
   pub notes : Notes served.stands note
   pub has : Has served
 
--- A request that was answered so is counted by its attempts, after which the card stands as the record notes.
-pub record IsCounted (stands : Stands) (old : Healed) (answer : Result Unit NotDone) (note : CardRecord) (new : Healed)
+-- A request with so many attempts that was answered so is counted by them, after which the card stands as the record notes.
+pub record IsCounted (most : ℕ) (stands : Stands) (old : Healed) (answer : Result Unit NotDone) (note : CardRecord) (new : Healed)
     : Type 0 where
   pub left : Stands
   pub fits : AnswersBy answer left
   pub notes : Notes left note
-  pub healed : HasHealed stands old left new
+  pub healed : HasHealed most stands old left new
 
 -- where the card of a host stood so, and the bus over the host was kept to its end, this holds
 abbrev pub WhereStood : Stands → HostView → BusView → Type 0 → Type 0

@@ -3,12 +3,13 @@ ghost use Rattle.std.specs.Prelude.{◌≡◌};
 ghost use Rattle.mmc_direct.specs.Asked.{asked_at};
 ghost use Rattle.mmc_requests.specs.Changes.{erased_at};
 ghost use Rattle.mmc_requests.specs.Kinds.{kind_of_how};
+ghost use Rattle.mmc_requests.specs.declared.limits.TheConstants.{ATTEMPTS};
 ghost use Rattle.mmc_switch.specs.declared.info.Info.{Info};
 
 use crate::request::Request;
 use mmc_bus::{Bus, Part};
 use mmc_erase::{How, erase_run};
-use mmc_requests::{Asked, Kind};
+use mmc_requests::{ATTEMPTS, Asked, Kind};
 use mmc_switch::{Broken, Session};
 
 /// An erase or a trim of so many sectors, from this one of a partition on.
@@ -39,6 +40,8 @@ impl Request for Erasing {
 
     ghost asked = { λ erasing. asked_at (kind_of_how erasing.how) erasing.part erasing.start erasing.count };
 
+    ghost attempts = { λ erasing. ATTEMPTS };
+
     ghost change = { λ info erasing. erased_at info erasing.part erasing.start erasing.count };
 
     ghost leaves = { λ old new. new ≡ old };
@@ -52,6 +55,10 @@ impl Request for Erasing {
             start: self.start,
             count: self.count,
         }
+    }
+
+    fn attempts(&self) -> u64 {
+        ATTEMPTS
     }
 
     fn run<B: Bus>(&mut self, bus: &mut B, session: Session) -> Result<Session, Broken> {

@@ -5,10 +5,11 @@ ghost use Rattle.mmc_card.specs.Sectors.{AreRead};
 ghost use Rattle.mmc_direct.specs.Asked.{asked_at};
 ghost use Rattle.mmc_requests.specs.Changes.{written_at};
 ghost use Rattle.mmc_requests.specs.declared.kind.Kind.TheVariants.{Read};
+ghost use Rattle.mmc_requests.specs.declared.limits.TheConstants.{ATTEMPTS};
 
 use crate::request::Request;
 use mmc_bus::{BlocksMut, Bus, Part};
-use mmc_requests::{Asked, Kind};
+use mmc_requests::{ATTEMPTS, Asked, Kind};
 use mmc_switch::{Broken, Session};
 use mmc_transfer::read_run;
 
@@ -30,6 +31,8 @@ impl<D: BlocksMut> Request for Reading<'_, D> {
 
     ghost asked = { λ reading. asked_at Read reading.part reading.start (length (D.Blocks.blocks reading.blocks.now)) };
 
+    ghost attempts = { λ reading. ATTEMPTS };
+
     ghost change = { λ info reading. written_at reading.part reading.start [] };
 
     ghost leaves = { λ old new. (new.part ≡ old.part) × (new.start ≡ old.start) × (new.blocks.ghost_name ≡ old.blocks.ghost_name)
@@ -45,6 +48,10 @@ impl<D: BlocksMut> Request for Reading<'_, D> {
             start: self.start,
             count: self.blocks.len() as u64,
         }
+    }
+
+    fn attempts(&self) -> u64 {
+        ATTEMPTS
     }
 
     fn run<B: Bus>(&mut self, bus: &mut B, session: Session) -> Result<Session, Broken> {

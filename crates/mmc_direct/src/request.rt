@@ -1,5 +1,5 @@
 // The trait of what is served: a read, a write, an erase or a trim.
-ghost use Rattle.std.specs.Prelude.{◌≡◌, ◌+◌, ◌≤◌, IfErr, IfOk, None, Some, true};
+ghost use Rattle.std.specs.Prelude.{◌≡◌, ◌+◌, ◌<◌, ◌≤◌, IfErr, IfOk, None, Some, true, ℕ};
 ghost use Rattle.mmc_bus.specs.Heard.{cause_of};
 ghost use Rattle.mmc_card.specs.Card.{holds};
 ghost use Rattle.mmc_card.specs.Sectors.{Change, Sets};
@@ -21,6 +21,9 @@ pub trait Request {
     // What it asks for.
     ghost asked: { Self → Asked };
 
+    // How many attempts it has.
+    ghost attempts: { Self → ℕ };
+
     // Which sectors it changes, on a card of which this is known, and to what.
     ghost change: { Info → Self → Change };
 
@@ -33,6 +36,11 @@ pub trait Request {
     /// What it asks for.
     fn asked(&self) -> Asked
         ensures { result ≡ asked self.now };
+
+    /// How many attempts it has, one at least.
+    fn attempts(&self) -> u64
+        ensures attempts { result ≡ attempts self.now }
+        ensures some { 0 < result };
 
     /// Makes one run of it, on a card by which it isn't refused and whose partition is selected.
     ///

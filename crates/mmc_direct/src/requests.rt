@@ -39,7 +39,7 @@ pub fn read<B: Bus, D: BlocksMut>(
     ensures untouched { IfRefused result.answer ((bus.new ≡ bus.old) × (result.stands ≡ stands) × (blocks.new ≡ blocks.old)) }
     ensures answer { AnswersBy result.answer result.stands }
     ensures uncounted { IfRefused result.answer (healed.new ≡ healed.old) }
-    ensures healed { IfServed result.answer (HasHealed stands healed.old result.stands healed.new) }
+    ensures healed { IfServed result.answer (HasHealed ATTEMPTS stands healed.old result.stands healed.new) }
     ensures info { lasting (info_of result.stands) ≡ lasting (info_of stands) }
     ensures count { length (D.blocks blocks.new) ≡ length (D.blocks blocks.old) }
     ensures lent { IsRewritten D.blocks D.with blocks.old blocks.new }
@@ -49,7 +49,7 @@ pub fn read<B: Bus, D: BlocksMut>(
 
     ensures kept { (B.view bus.new).is_kept ≡ true → (B.view bus.old).is_kept ≡ true }
     ensures served { (B.view bus.new).is_kept ≡ true → StandsIn stands (B.view bus.old)
-        → HasRead part start (D.blocks blocks.new) (B.view bus.old) result (B.view bus.new) }
+        → HasRead ATTEMPTS part start (D.blocks blocks.new) (B.view bus.old) result (B.view bus.new) }
 {
     let mut reading = Reading {
         part,
@@ -73,7 +73,7 @@ pub fn write<B: Bus, D: Blocks>(
     ensures untouched { IfRefused result.answer ((bus.new ≡ bus.old) × (result.stands ≡ stands)) }
     ensures answer { AnswersBy result.answer result.stands }
     ensures uncounted { IfRefused result.answer (healed.new ≡ healed.old) }
-    ensures healed { IfServed result.answer (HasHealed stands healed.old result.stands healed.new) }
+    ensures healed { IfServed result.answer (HasHealed ATTEMPTS stands healed.old result.stands healed.new) }
     ensures info { lasting (info_of result.stands) ≡ lasting (info_of stands) }
     ensures bounded { (B.view bus.new).exchanges ≤ (B.view bus.old).exchanges + ATTEMPTS * moving (length (D.blocks blocks.now)) }
     ensures cause { IfLeft result.answer result.stands (λ broken. IsCausedIn ((ATTEMPTS - 1) * moving (length (D.blocks blocks.now))) broken
@@ -81,7 +81,7 @@ pub fn write<B: Bus, D: Blocks>(
 
     ensures kept { (B.view bus.new).is_kept ≡ true → (B.view bus.old).is_kept ≡ true }
     ensures served { (B.view bus.new).is_kept ≡ true → StandsIn stands (B.view bus.old)
-        → HasChanged (written_at part start (D.blocks blocks.now)) (B.view bus.old) result (B.view bus.new) }
+        → HasChanged ATTEMPTS (written_at part start (D.blocks blocks.now)) (B.view bus.old) result (B.view bus.new) }
 {
     let mut writing = Writing {
         part,
@@ -107,7 +107,7 @@ pub fn erase<B: Bus>(
     ensures untouched { IfRefused result.answer ((bus.new ≡ bus.old) × (result.stands ≡ stands)) }
     ensures answer { AnswersBy result.answer result.stands }
     ensures uncounted { IfRefused result.answer (healed.new ≡ healed.old) }
-    ensures healed { IfServed result.answer (HasHealed stands healed.old result.stands healed.new) }
+    ensures healed { IfServed result.answer (HasHealed ATTEMPTS stands healed.old result.stands healed.new) }
     ensures info { lasting (info_of result.stands) ≡ lasting (info_of stands) }
     ensures bounded { (B.view bus.new).exchanges ≤ (B.view bus.old).exchanges + ATTEMPTS * erasing }
     ensures cause { IfLeft result.answer result.stands (λ broken. IsCausedIn ((ATTEMPTS - 1) * erasing) broken
@@ -115,7 +115,7 @@ pub fn erase<B: Bus>(
 
     ensures kept { (B.view bus.new).is_kept ≡ true → (B.view bus.old).is_kept ≡ true }
     ensures served { (B.view bus.new).is_kept ≡ true → StandsIn stands (B.view bus.old)
-        → HasChanged (erased_at (info_of stands) part start count) (B.view bus.old) result (B.view bus.new) }
+        → HasChanged ATTEMPTS (erased_at (info_of stands) part start count) (B.view bus.old) result (B.view bus.new) }
 {
     let mut erasing = Erasing {
         part,

@@ -5,7 +5,6 @@ ghost use Rattle.mmc_direct.specs.Attempts.{exchanges_of};
 ghost use Rattle.mmc_direct.specs.Refusal.{refusal_of};
 ghost use Rattle.mmc_direct.specs.Requests.{Serves};
 ghost use Rattle.mmc_direct.specs.Served.{IfRefused, IfServed, refusal_in};
-ghost use Rattle.mmc_requests.specs.declared.limits.TheConstants.{ATTEMPTS};
 ghost use Rattle.mmc_switch.specs.Stands.{StandsIn, info_of};
 ghost use Rattle.mmc_host.specs.HostStates.{IsBetween};
 ghost use Rattle.mmc_host.specs.Hosts.{Where};
@@ -44,12 +43,12 @@ pub fn serve_over<H: Host, R: Request>(
     ensures left { is_err result.1 ≡ is_some (refusal_in result.0) }
     ensures untouched { IfRefused result.0 ((result.1 ≡ Err host) × (request.new ≡ request.old) × Notes stands card.new) }
     ensures uncounted { IfRefused result.0 (healed.new ≡ healed.old) }
-    ensures healed { IfServed result.0 (IsCounted stands healed.old result.0 card.new healed.new) }
+    ensures healed { IfServed result.0 (IsCounted (R.attempts request.old) stands healed.old result.0 card.new healed.new) }
     ensures leaves { R.leaves request.old request.new }
     ensures bounded { IfOk result.1 (λ bus.
-        (⟦<HostBus<H> as Bus>⟧.view bus).exchanges ≤ ATTEMPTS * exchanges_of (R.asked request.old)) }
+        (⟦<HostBus<H> as Bus>⟧.view bus).exchanges ≤ R.attempts request.old * exchanges_of (R.asked request.old)) }
     ensures kept { IfOk result.1 (λ bus. (⟦<HostBus<H> as Bus>⟧.view bus).is_kept ≡ true → (H.view host).is_kept ≡ true) }
-    ensures served { IfOk result.1 (λ bus. IsServed (Serves (R.change (info_of stands) request.old) (λ sets. R.has sets request.new))
+    ensures served { IfOk result.1 (λ bus. IsServed (Serves (R.attempts request.old) (R.change (info_of stands) request.old) (λ sets. R.has sets request.new))
         stands (H.view host) result.0 card.new (⟦<HostBus<H> as Bus>⟧.view bus)) }
     ensures noted { IfOk result.1 (λ bus. WhereStood stands (H.view host) (⟦<HostBus<H> as Bus>⟧.view bus)
         (IsNotedOf card.new (H.view bus.host))) }

@@ -3,10 +3,11 @@ ghost use Rattle.std.specs.Prelude.{◌≡◌, length};
 ghost use Rattle.mmc_direct.specs.Asked.{asked_at};
 ghost use Rattle.mmc_requests.specs.Changes.{written_at};
 ghost use Rattle.mmc_requests.specs.declared.kind.Kind.TheVariants.{Write};
+ghost use Rattle.mmc_requests.specs.declared.limits.TheConstants.{ATTEMPTS};
 
 use crate::request::Request;
 use mmc_bus::{Blocks, Bus, Part};
-use mmc_requests::{Asked, Kind};
+use mmc_requests::{ATTEMPTS, Asked, Kind};
 use mmc_switch::{Broken, Session};
 use mmc_transfer::write_run;
 
@@ -26,6 +27,8 @@ impl<D: Blocks> Request for Writing<'_, D> {
 
     ghost asked = { λ writing. asked_at Write writing.part writing.start (length (D.blocks writing.blocks.now)) };
 
+    ghost attempts = { λ writing. ATTEMPTS };
+
     ghost change = { λ info writing. written_at writing.part writing.start (D.blocks writing.blocks.now) };
 
     ghost leaves = { λ old new. new ≡ old };
@@ -39,6 +42,10 @@ impl<D: Blocks> Request for Writing<'_, D> {
             start: self.start,
             count: self.blocks.len() as u64,
         }
+    }
+
+    fn attempts(&self) -> u64 {
+        ATTEMPTS
     }
 
     fn run<B: Bus>(&mut self, bus: &mut B, session: Session) -> Result<Session, Broken> {

@@ -19,6 +19,7 @@ use Rattle.mmc_sdhci.specs.declared.mover.Mover.{Mover}
 use Rattle.mmc_sdhci.specs.declared.mover.Mover.TheVariants as By
 use Rattle.mmc_sdhci.specs.Accesses.{IsAllowed, IsAtRest, Writes, can_clear, can_move, is_asked, is_at_rest, is_clean, written}
 use Rattle.mmc_sdhci.proofs.Blocks.{both}
+use Rattle.mmc_sdhci.proofs.Glancing.{or_true}
 
 small_response : (response : Response) → response_flags response < 32
 small_response To.Nothing = omega arith
@@ -111,10 +112,6 @@ not_one : (n : ℕ) → n ≤ 1 → (n == 1) ≡ false → n ≡ 0
 not_one zero low is = refl
 not_one (suc zero) low is = absurd (false≢true (sym is))
 not_one (suc (suc n)) low is = omega (arith, low)
-
-or_true : (b : Bool) → (b || true) ≡ true
-or_true true = refl
-or_true false = refl
 
 is_running_none : (view : ControllerView) → is_at_rest view ≡ true → is_none view.running ≡ true
 is_running_none view rests = (both (is_none view.running) _ rests).0
@@ -434,8 +431,8 @@ may_clear_by : (view : ControllerView) (under_way : Data) (has : Bool) → has_d
     → view.transfer ≡ under_way → can_clear view (if has then of_a_command else any_bits) ≡ true
 may_clear_by view under_way true has idle is = ap (λ (b : Bool). b && (not (has_data view.transfer) || true)) idle ∙ or_true (not (has_data view.transfer))
 may_clear_by view under_way false has idle is =
-    ap (λ (b : Bool). b && (not (has_data view.transfer) || (bit_and any_bits of_a_command == any_bits))) idle
-    ∙ ap (λ (b : Bool). not b || (bit_and any_bits of_a_command == any_bits)) (ap (λ (t : Data). has_data t) is ∙ has)
+    ap (λ (b : Bool). b && (not (has_data view.transfer) || (bit_and any_bits 0x000f0031 == any_bits))) idle
+    ∙ ap (λ (b : Bool). not b || (bit_and any_bits 0x000f0031 == any_bits)) (ap (λ (t : Data). has_data t) is ∙ has)
 
 pub may_clear : (view : ControllerView) (under_way : Data) (bits : ℕ) → IsAtRest view → IsUnderWay view under_way
     → bits ≡ older_bits under_way → IsAllowed view 0x30 bits

@@ -1,15 +1,15 @@
 -- Looks at the data.
 use Rattle.std.proofs.Common.{◌∙◌, ◌≡◌, Bool, List, None, Option, Some, ap, false, refl, subst, sym, true, ℕ}
-use Rattle.std.specs.Prelude.{[], ◌&&◌, ◌==◌, ◌||◌}
+use Rattle.std.specs.Prelude.{[], ◌&&◌, ◌==◌, ◌||◌, is_none, not}
 use Rattle.std.proofs.lemmas.Bool.{false≢true}
 use Rattle.mmc_frame.specs.Field.{field}
 use Rattle.mmc_host.specs.declared.data.Data.{Data}
-use Rattle.mmc_sdhci.specs.Controller.{ControllerView, Settled}
+use Rattle.mmc_sdhci.specs.Controller.{ControllerView, Running, Settled, has_data}
 use Rattle.mmc_sdhci.specs.DataLooks.{DataLooked, ReadLook, WriteLook, following_of, has_news, is_empty, is_gone, is_over_by, is_whole}
-use Rattle.mmc_sdhci.specs.Accesses.{Stays}
+use Rattle.mmc_sdhci.specs.Accesses.{IsAllowed, Stays, Writes}
 use Rattle.mmc_sdhci.specs.DataLooks.ReadLook.{comes as read_comes, failed as read_failed, good as read_good, waits as read_waits}
 use Rattle.mmc_sdhci.specs.DataLooks.WriteLook.{accepted as write_accepted, failed as write_failed, waits as write_waits}
-use Rattle.mmc_sdhci.specs.Moving.{Glances, IsSeeking, OnlyWatched, Seeks, Watches, is_error, is_found, looking}
+use Rattle.mmc_sdhci.specs.Moving.{Glances, IsClear, IsSeeking, OnlyWatched, Seeks, Watches, is_error, is_found, looking}
 use Rattle.mmc_sdhci.specs.declared.following.Following.{Following}
 use Rattle.mmc_sdhci.specs.declared.watching.Glance.{Glance}
 use Rattle.mmc_sdhci.specs.declared.watching.Sought.{Sought}
@@ -145,3 +145,61 @@ watch_again s v0 v1 v2 v3 seen seeks before look neither waits kept =
     λ (one : field 15 15 seen.bits ≡ 1). false≢true (sym parts.0 ∙ ap (λ (n : ℕ). n == 1) one) in
     let only = still_there s v0 v2 seen l.1.0 parts.1 fine l.1.1 in
     (l.0, subst (λ (v : ControllerView). OnlyWatched v0 v) (sym w.1) only)
+
+-- Where looks found nothing, the driver looks on.
+
+pub seeking_still : (s : Sought) (v0 v1 : ControllerView) → IsSeeking s v0 → Settled v0 (OnlyWatched v0 v1) v1 → IsSeeking s v1
+seeking_still s v0 v1 seeks before kept =
+    let b = before kept in
+    let at = seeks b.0 in
+    subst (λ (v : ControllerView). IsClear v × Seeks s v) (sym b.1) (
+      record {
+        running = at.0.running;
+        stuck = at.0.stuck;
+        stale = at.0.stale;
+        resetting = at.0.resetting;
+        stabilizing = at.0.stabilizing;
+        starting = at.0.starting;
+        moving = at.0.moving;
+      },
+      seeks_still s v0 v1.status v1.is_ready at.1,
+    )
+
+pub watched_then : (v0 v1 v2 : ControllerView) → Settled v0 (OnlyWatched v0 v1) v1 → Settled v1 (OnlyWatched v1 v2) v2
+    → Settled v0 (OnlyWatched v0 v2) v2
+watched_then v0 v1 v2 before after kept =
+    let a = after kept in
+    let b = before a.0 in
+    (b.0, a.1 ∙ ap (λ (v : ControllerView). after_looks v v2.status v2.is_ready) b.1)
+
+pub watches_then : (s : Sought) (v0 v1 v2 : ControllerView) (result : Option Glance) → IsSeeking s v0
+    → Settled v0 (OnlyWatched v0 v1) v1 → Watches v1 s result v2 → Watches v0 s result v2
+watches_then s v0 v1 v2 None seeks before after kept = watched_then v0 v1 v2 before after kept
+watches_then s v0 v1 v2 (Some seen) seeks before after kept =
+    let a = after kept in
+    let b = before a.0 in
+    let from : DataLooked (after_looks v0 v1.status seen.is_ready) v0.transfer seen.bits v2 =
+    subst (λ (v : ControllerView). DataLooked (looking v seen) v.transfer seen.bits v2) b.1 a.1.1 in
+    (b.0, (a.1.0, data_from v0.transfer v0 v2 v1.status seen.bits seen.is_ready from))
+
+pub or_true : (b : Bool) → (b || true) ≡ true
+or_true true = refl
+or_true false = refl
+
+-- before an interrupt is waited for
+pub may_clear_ready : (s : Sought) (view : ControllerView) → IsSeeking s view → IsAllowed view 0x30 0x30
+may_clear_ready s view seeks kept =
+    ap (λ (o : Option Running). is_none o && (not (has_data view.transfer) || true)) (seeks kept).0.running
+    ∙ or_true (not (has_data view.transfer))
+
+pub ready_cleared : (v0 v1 : ControllerView) → Writes v0 0x30 0x30 v1 → Settled v0 (OnlyWatched v0 v1) v1
+ready_cleared v0 v1 writes kept =
+    let w = writes kept in
+    (w.0, w.1 ∙ sym (ap (λ (v : ControllerView). record v0 { status = v.status; is_ready = v.is_ready }) w.1))
+
+-- nothing happens while it is
+pub watched_stays : (v0 v1 v2 : ControllerView) → Settled v0 (OnlyWatched v0 v1) v1 → Stays v1 v2 → Settled v0 (OnlyWatched v0 v2) v2
+watched_stays v0 v1 v2 before stays kept =
+    let w = stays kept in
+    let b = before w.0 in
+    (b.0, subst (λ (v : ControllerView). OnlyWatched v0 v) (sym w.1) b.1)

@@ -85,9 +85,10 @@ can_put view =
     && ((view.is_ready || not (is_empty view.outgoing)) && nat_lt (length view.outgoing) 512)
 
 -- Bits of the interrupt status that may be cleared now: while a command runs none; while data is under way Command Complete and the
--- errors of a command alone (bits 0 and 16 to 19), which have been judged; otherwise all.
+-- errors of a command alone (bits 0 and 16 to 19), which have been judged, and that the buffer was ready (bits 4 and 5), which Present
+-- State says too; otherwise all.
 abbrev pub can_clear : ControllerView → ℕ → Bool
-can_clear view value = is_none view.running && (not (has_data view.transfer) || (bit_and value of_a_command == value))
+can_clear view value = is_none view.running && (not (has_data view.transfer) || (bit_and value 0x000f0031 == value))
 
 -- What an older command or older data left is cleared: all, or, where the command has no data, what is a command's: what is under way
 -- then is dropped by the reset that follows.

@@ -1,5 +1,5 @@
 // Commands and their responses.
-ghost use Rattle.std.specs.Prelude.{◌≡◌, ◌<◌, IfOk, false, is_ok, true, ℕ};
+ghost use Rattle.std.specs.Prelude.{◌*◌, ◌≡◌, ◌<◌, IfOk, bit_and, false, is_ok, true, ℕ};
 ghost use Rattle.mmc_card.specs.CardAnswer.{Silent};
 ghost use Rattle.mmc_host.specs.Hosts.{answer_heard};
 ghost use Rattle.mmc_host.specs.HostStates.{AreMovable, IsFree};
@@ -8,7 +8,7 @@ ghost use Rattle.mmc_sdhci.specs.Commands.{CanMoveBy, IsUnderWay, IsWord, KeepsL
 ghost use Rattle.mmc_card.specs.declared.response.Response.TheVariants.{R1, R2};
 ghost use Rattle.mmc_sdhci.specs.Controller.{Settled, has_data};
 ghost use Rattle.mmc_sdhci.specs.Driver.{IsAtEase, IsSameCard};
-ghost use Rattle.mmc_sdhci.specs.CommandLooks.{bytes_shown};
+ghost use Rattle.mmc_sdhci.specs.CommandLooks.{bytes_shown, of_a_command};
 ghost use Rattle.mmc_sdhci.specs.Accesses.{IsAtRest, IsStill};
 ghost use Rattle.mmc_sdhci.specs.Beside.{HasWaited};
 ghost use Rattle.mmc_sdhci.specs.Moving.{WhereKept};
@@ -25,9 +25,13 @@ const ALL: u32 = 0xffff_ffff;
 // Command Complete, and the errors of a command.
 const OF_A_COMMAND: u32 = 0x000f_0001;
 
+// 10 ms.
 const LOOKS: u32 = 1000;
 
 const BETWEEN_LOOKS: u32 = 10;
+
+// Before it is waited for an interrupt: most commands are over by then.
+const FIRST_LOOKS: u32 = 3;
 
 const COMMAND_LINE: u8 = 2;
 
@@ -164,21 +168,48 @@ fn begin<R: Registers>(registers: &mut R, under_way: Data, command: HostCommand,
     registers.write32(COMMAND, word);
 }
 
-// Looks at the interrupt status until the command is over, and tells it; 0 where it still runs.
+// Whether the command is over.
+fn is_over(bits: u32) -> bool
+    ensures over { result ≡ true → bit_and bits of_a_command ≡ 0 → ⊥ }
+    ensures runs { result ≡ false → bit_and bits of_a_command ≡ 0 }
+{
+    bits & OF_A_COMMAND != 0
+}
+
+// Looks so often at the interrupt status until the command is over, and tells it; 0 where it still runs.
+fn look<R: Registers>(registers: &mut R, looks: u32) -> u32
+    requires still { IsStill (R.view registers.old) }
+    requires running { IsRunning (R.view registers.old) }
+    ensures ends { Ends (R.view registers.old) result (R.view registers.new) }
+    ensures late { result ≡ 0 → HasWaited (R.view registers.new) (10 * looks) (R.beside registers.old) (R.beside registers.new) }
+{
+    for _look in 0..looks {
+        let bits = registers.read32(INTERRUPTS);
+        if is_over(bits) {
+            return bits;
+        }
+        pause(registers, BETWEEN_LOOKS);
+    }
+    0
+}
+
+// The same for 10 ms, by an interrupt where there is one.
 fn wait<R: Registers>(registers: &mut R) -> u32
     requires still { IsStill (R.view registers.old) }
     requires running { IsRunning (R.view registers.old) }
     ensures ends { Ends (R.view registers.old) result (R.view registers.new) }
     ensures late { result ≡ 0 → HasWaited (R.view registers.new) 10000 (R.beside registers.old) (R.beside registers.new) }
 {
-    for _look in 0..LOOKS {
-        let bits = registers.read32(INTERRUPTS);
-        if bits % 2 == 1 || bits / 0x1_0000 % 16 != 0 {
-            return bits;
-        }
-        pause(registers, BETWEEN_LOOKS);
+    if !registers.can_wait() {
+        return look(registers, LOOKS);
     }
-    0
+    let bits = look(registers, FIRST_LOOKS);
+    if bits != 0 {
+        return bits;
+    }
+    registers.wait(OF_A_COMMAND, LOOKS * BETWEEN_LOOKS);
+    let bits = registers.read32(INTERRUPTS);
+    if is_over(bits) { bits } else { 0 }
 }
 
 // A word of Response.

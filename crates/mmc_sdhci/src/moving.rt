@@ -2,7 +2,7 @@
 ghost use Rattle.std.specs.Prelude.{◌+◌, ◌<◌, ◌≡◌, ◌^◌, ◌||◌, IfNone, IfSome, false, length, true};
 ghost use Rattle.mmc_card.specs.declared.exchange.DataIn.TheVariants as Came;
 ghost use Rattle.mmc_sdhci.specs.Accesses.{IsAtRest, Stays};
-ghost use Rattle.mmc_sdhci.specs.Beside.{HasWaited};
+ghost use Rattle.mmc_sdhci.specs.Beside.{HasWaited, time_of};
 ghost use Rattle.mmc_sdhci.specs.Commands.{RestsButMoves};
 ghost use Rattle.mmc_sdhci.specs.Controller.{lines_in};
 ghost use Rattle.mmc_sdhci.specs.DataLooks.{is_complete};
@@ -22,7 +22,7 @@ use crate::registers::Registers;
 use crate::settling::pause;
 use crate::start::{SHOWN, control_of};
 use crate::tables::Table;
-use crate::watching::{FIRST_LOOKS, between};
+use crate::watching::{ERRORS, FEW_LOOKS, FIRST_LOOKS, between};
 use mmc_bus::BlocksMut;
 use mmc_card::{DataIn, Lines};
 
@@ -31,6 +31,11 @@ const DMA_ERROR: u32 = 0x0200_0000;
 
 // Ten seconds and more: the controller's own timeout of data ends it sooner, and this is for one that doesn't.
 const LOOKS: u32 = FIRST_LOOKS + 200_000;
+
+const TIME: u32 = 10_000_000;
+
+// Transfer Complete, and all errors.
+const MOVED: u32 = 0x0002 + ERRORS + DMA_ERROR;
 
 // Block Size and Block Count of no data, with the boundary of SDMA. A write of its address also goes on with what has stopped at a
 // boundary (section 2.2.1), and QEMU's controller takes any blocks that are counted still for that.
@@ -124,14 +129,14 @@ fn is_over(bits: u32) -> bool
     bits / 0x8000 % 2 == 1 || bits / 2 % 2 == 1
 }
 
-// Looks until all data is moved, or a block failed; `None` where there is neither for too long.
-fn watch_moving<R: Registers>(registers: &mut R) -> Option<u32>
+// Looks so often until all data is moved, or a block failed; `None` where there is neither.
+fn look<R: Registers>(registers: &mut R, looks: u32) -> Option<u32>
     requires rest { RestsButMoves (R.view registers.old) }
     requires moving { IsMoving (R.view registers.old) }
     ensures watches { WatchesMoving (R.view registers.old) result (R.view registers.new) }
-    ensures late { IfNone result (HasWaited (R.view registers.new) 10000000 (R.beside registers.old) (R.beside registers.new)) }
+    ensures late { IfNone result (HasWaited (R.view registers.new) (time_of looks) (R.beside registers.old) (R.beside registers.new)) }
 {
-    for number in 0..LOOKS {
+    for number in 0..looks {
         let bits = registers.read32(INTERRUPTS);
         if is_over(bits) {
             return Some(bits);
@@ -139,6 +144,31 @@ fn watch_moving<R: Registers>(registers: &mut R) -> Option<u32>
         pause(registers, between(number));
     }
     None
+}
+
+// The same for ten seconds, by an interrupt where there is one.
+fn watch_moving<R: Registers>(registers: &mut R) -> Option<u32>
+    requires rest { RestsButMoves (R.view registers.old) }
+    requires moving { IsMoving (R.view registers.old) }
+    ensures watches { WatchesMoving (R.view registers.old) result (R.view registers.new) }
+    ensures late { IfNone result (HasWaited (R.view registers.new) 10000000 (R.beside registers.old) (R.beside registers.new)) }
+{
+    if !registers.can_wait() {
+        return look(registers, LOOKS);
+    }
+    if let Some(bits) = look(registers, FEW_LOOKS) {
+        return Some(bits);
+    }
+    registers.wait(MOVED, TIME);
+    let bits = registers.read32(INTERRUPTS);
+    if is_over(bits) {
+        return Some(bits);
+    }
+    if bits & MOVED == 0 {
+        return None;
+    }
+    // There was one, but it isn't over.
+    look(registers, LOOKS)
 }
 
 /// Waits until all data is moved, and tells what became of a block of a read that failed. Then the data line is reset, so that nothing is

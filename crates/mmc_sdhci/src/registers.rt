@@ -1,9 +1,9 @@
 ghost use Rattle.std.specs.Prelude.{◌≡◌, ◌+◌, ◌/◌, ◌<◌, ◌^◌, length};
 ghost use Rattle.mmc_sdhci.specs.Controller.{ControllerView, Settled};
-ghost use Rattle.mmc_sdhci.specs.Beside.{Beside, IsBeside, read_on, waited_on};
+ghost use Rattle.mmc_sdhci.specs.Beside.{Beside, IsBeside, WaitsFor, read_on, waited_on, write_on};
 ghost use Rattle.mmc_sdhci.specs.Lending.{Fits, FitsTable, IsUnmoved, Lends, LendsTable, NamesLent, TakesPlace, TakesPlaces, unlent};
 ghost use Rattle.mmc_sdhci.specs.Lent.{Room, ToGo};
-ghost use Rattle.mmc_sdhci.specs.Accesses.{IsAllowed, IsAllowed8, IsAtRest, Passes, Reads, Reads8, Writes, Writes8};
+ghost use Rattle.mmc_sdhci.specs.Accesses.{IsAllowed, IsAllowed8, IsAtRest, IsStill, Passes, Reads, Reads8, Stays, Writes, Writes8};
 ghost use Rattle.mmc_sdhci.specs.Moving.{HasRoom, Puts, Takes};
 
 use crate::offsets::PORT;
@@ -27,7 +27,7 @@ pub trait Registers {
     fn write32(&mut self, offset: u8, value: u32)
         requires { IsAllowed (view self.old) offset value }
         ensures writes { Writes (view self.old) offset value (view self.new) }
-        ensures aside { IsBeside (view self.new) (beside self.old) (beside self.new) };
+        ensures aside { IsBeside (view self.new) (write_on (beside self.old)) (beside self.new) };
 
     /// Reads 8 bits.
     fn read8(&mut self, offset: u8) -> u8
@@ -38,7 +38,7 @@ pub trait Registers {
     fn write8(&mut self, offset: u8, value: u8)
         requires { IsAllowed8 (view self.old) offset value }
         ensures writes { Writes8 (view self.old) offset value (view self.new) }
-        ensures aside { IsBeside (view self.new) (beside self.old) (beside self.new) };
+        ensures aside { IsBeside (view self.new) (write_on (beside self.old)) (beside self.new) };
 
     /// Fills this block, of whole words, from the Buffer Data Port: reads of 32 bits at 20h, the lowest byte first. Who has a faster way
     /// makes them by one call.
@@ -136,4 +136,21 @@ pub trait Registers {
     fn pause(&mut self, micros: u32)
         ensures passes { Passes (view self.old) micros (view self.new) }
         ensures aside { IsBeside (view self.new) (waited_on (beside self.old) micros) (beside self.new) };
+
+    /// Whether `wait` ends once an interrupt comes. Where it doesn't, the driver looks again and again, with short pauses in between.
+    fn can_wait(&self) -> bool {
+        false
+    }
+
+    /// Waits until one of these bits of Interrupt Status is set (30h, in its upper half the errors; sections 2.2.17 and 2.2.18), or so many
+    /// microseconds are over. One that is set already ends it at once, and so does one that is set while it begins. What else fires, or
+    /// fires without any of these bits, doesn't end it. It leaves the status as it is.
+    fn wait(&mut self, interrupts: u32, micros: u32)
+        requires { IsStill (view self.old) }
+        ensures stays { Stays (view self.old) (view self.new) }
+        ensures aside { WaitsFor (view self.new) interrupts micros (beside self.old) (beside self.new) }
+    {
+        let _ = interrupts;
+        self.pause(micros);
+    }
 }

@@ -4,3 +4,4 @@ mod SearchLemmas
 mod ServedLemmas
 mod SlotLemmas
 mod TicketLemmas
+mod WorkLemmas

@@ -4,3 +4,4 @@ pub mod Search
 pub mod Served
 pub mod Slots
 pub mod Started
+pub mod Work

@@ -2,6 +2,7 @@
 ghost use Rattle.std.specs.Prelude.{◌≡◌, ◌≢◌, ◌++◌, ◌+◌, ◌<◌, ◌∷◌, ◌^◌, Err, IfSome, IsOk, None, OnErr, OnOk, [], ℕ};
 ghost use Rattle.mmc_slots.specs.Accepted.{entry_with, refusal};
 ghost use Rattle.mmc_slots.specs.Slots.{AreOrdered, Memory, entries_in, taken};
+ghost use Rattle.mmc_slots.specs.Work.{work_left};
 ghost use Rattle.mmc_slots.specs.declared.acceptance.NotAccepted.TheVariants as Not;
 ghost use Rattle.mmc_slots.specs.declared.slot.TheConstants.{FREE, WAITS};
 
@@ -59,6 +60,7 @@ pub fn submit(
         → entries_in memory WAITS slots.new ≡ entries_in memory WAITS slots.old ++ entry_with memory client asked.now next.old ∷ []) }
     ensures others { (memory : Memory) (state : ℕ) → state ≢ FREE → state ≢ WAITS
         → entries_in memory state slots.new ≡ entries_in memory state slots.old }
+    ensures more { OnOk result (work_left slots.new ≡ work_left slots.old + 3) }
     ensures ordered { AreOrdered next.old slots.old → AreOrdered next.new slots.new }
     ensures unchanged { OnErr result (slots.new ≡ slots.old) }
     ensures unused { OnErr result (next.new ≡ next.old) }

@@ -1,7 +1,8 @@
-ghost use Rattle.std.specs.Prelude.{◌&&◌, ◌==◌, ◌≡◌, ◌≢◌, Contains, IfErr, IfOk, OnErr, ℕ};
+ghost use Rattle.std.specs.Prelude.{◌&&◌, ◌+◌, ◌==◌, ◌≡◌, ◌≢◌, Contains, IfErr, IfOk, OnErr, ℕ};
 ghost use Rattle.mmc_queue.specs.Waiting.{Takes};
 ghost use Rattle.mmc_slots.specs.Slots.{AreOrdered, Memory, SameButStates, entries_in, entry_of};
 ghost use Rattle.mmc_slots.specs.Cancelled.{IsWhy, is_request};
+ghost use Rattle.mmc_slots.specs.Work.{work_left};
 ghost use Rattle.mmc_slots.specs.declared.slot.TheConstants.{FREE, WAITS};
 
 use crate::slot::{ALONE, FREE, Slot, TOGETHER, WAITS, put_state, slot_at};
@@ -36,6 +37,7 @@ pub fn cancel(slots: &mut [Slot], ticket: u64) -> Result<Slot, CancelFault>
         → Takes (entries_in memory WAITS slots.old) (entry_of memory s) (entries_in memory WAITS slots.new)) }
     ensures others { (memory : Memory) (state : ℕ) → state ≢ FREE → state ≢ WAITS
         → entries_in memory state slots.new ≡ entries_in memory state slots.old }
+    ensures less { IfOk result (λ s. work_left slots.new + 3 ≡ work_left slots.old) }
     ensures same { SameButStates slots.old slots.new }
     ensures ordered { (next : ℕ) → AreOrdered next slots.old → AreOrdered next slots.new }
     ensures why { IfErr result (IsWhy slots.old ticket) }

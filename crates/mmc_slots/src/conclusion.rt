@@ -1,6 +1,7 @@
-ghost use Rattle.std.specs.Prelude.{◌||◌, ◌≡◌, [], false, length, nat_le, true, ℕ};
+ghost use Rattle.std.specs.Prelude.{◌<◌, ◌||◌, ◌≡◌, ◌≢◌, [], false, length, nat_le, true, ℕ};
 ghost use Rattle.mmc_slots.specs.Slots.{AreOrdered, Memory, SameButStates, UnknownStay, entries_in};
 ghost use Rattle.mmc_slots.specs.Served.{IsAnswered, IsSplit, all_moved_on};
+ghost use Rattle.mmc_slots.specs.Work.{work_left};
 ghost use Rattle.mmc_slots.specs.declared.slot.TheConstants.{ALONE, TOGETHER};
 
 use crate::slot::{ALONE, FREE, Slot, TOGETHER, put_state, slot_at};
@@ -36,6 +37,8 @@ pub fn conclude(slots: &mut [Slot], is_done: bool) -> bool
     ensures answered { result ≡ true → (memory : Memory) → IsAnswered memory slots.old slots.new }
     ensures split { result ≡ false → (memory : Memory)
         → entries_in memory ALONE slots.old ≡ [] → IsSplit memory slots.old slots.new }
+    ensures less { (memory : Memory) → entries_in memory TOGETHER slots.old ≢ []
+        → (result ≡ false → entries_in memory ALONE slots.old ≡ []) → work_left slots.new < work_left slots.old }
     ensures unknown { (memory : Memory) → UnknownStay memory slots.old slots.new }
     ensures same { SameButStates slots.old slots.new }
     ensures ordered { (next : ℕ) → AreOrdered next slots.old → AreOrdered next slots.new }

@@ -6,6 +6,7 @@ ghost use Rattle.mmc_queue.specs.declared.extent.TheConstants.{MAX_GROUP};
 ghost use Rattle.mmc_requests.specs.declared.limits.TheConstants.{MAX_COUNT};
 ghost use Rattle.mmc_slots.specs.Slots.{AreOrdered, Memory, SameButStates, UnknownStay, entries_in, in_state, request_of, slot_at};
 ghost use Rattle.mmc_slots.specs.Started.{IsIdle, IsReady, StartsAlone, StartsFairly, StartsGroup};
+ghost use Rattle.mmc_slots.specs.Work.{work_left};
 ghost use Rattle.mmc_slots.specs.declared.slot.TheConstants.{ALONE, TOGETHER, WAITS};
 
 use crate::search::{find, first_in};
@@ -61,6 +62,8 @@ pub fn start(slots: &mut [Slot], most: u64) -> Option<Extent>
     ensures alone { (memory : Memory) (e : Entry) (es : List Entry)
         → entries_in memory TOGETHER slots.old ≡ [] → entries_in memory ALONE slots.old ≡ e ∷ es
         → IfSome result (StartsAlone memory e es slots.old slots.new) }
+    ensures less { (memory : Memory) (next : ℕ) → AreOrdered next slots.old → entries_in memory TOGETHER slots.old ≡ []
+        → IfSome result (λ extent. work_left slots.new < work_left slots.old) }
     ensures unknown { (memory : Memory) → UnknownStay memory slots.old slots.new }
     ensures same { SameButStates slots.old slots.new }
     ensures ordered { (next : ℕ) → AreOrdered next slots.old → AreOrdered next slots.new }

@@ -1,10 +1,11 @@
 // What goes into service.
-ghost use Rattle.std.specs.Prelude.{◌<◌, ◌≡◌, ◌≤◌, ◌↔◌, ◌^◌, [], IfNone, IsNone, MatchOption, ℕ};
+ghost use Rattle.std.specs.Prelude.{◌<◌, ◌≡◌, ◌≤◌, ◌↔◌, ◌^◌, [], IfNone, IfSome, IsNone, MatchOption, ℕ};
 ghost use Rattle.mmc_block.specs.Machine.{Machine};
 ghost use Rattle.mmc_card.specs.Sectors.{Sets};
 ghost use Rattle.mmc_requests.specs.declared.limits.TheConstants.{MAX_COUNT};
-ghost use Rattle.mmc_slots.specs.Slots.{Memory, entries_in};
+ghost use Rattle.mmc_slots.specs.Slots.{AreOrdered, Memory, entries_in};
 ghost use Rattle.mmc_slots.specs.Started.{IsIdle};
+ghost use Rattle.mmc_slots.specs.Work.{work_left};
 ghost use Rattle.mmc_slots.specs.declared.slot.TheConstants.{TOGETHER};
 ghost use Rattle.mmc_switch.specs.declared.info.Info.{Info};
 ghost use Rattle.mmc_turns.specs.Agrees.{Agrees};
@@ -21,6 +22,8 @@ pub fn start(slots: &mut [Slot], most: u64) -> Option<Extent>
         → Agrees info memory slots.old next card machine → next < 2 ^ 64 → most ≤ MAX_COUNT
         → entries_in memory TOGETHER slots.old ≡ []
         → MatchOption result (slots.new ≡ slots.old) (λ extent. HasStarted info memory slots.new extent next card machine) }
+    ensures less { (memory : Memory) (next : ℕ) → AreOrdered next slots.old → entries_in memory TOGETHER slots.old ≡ []
+        → IfSome result (λ extent. work_left slots.new < work_left slots.old) }
     ensures idle { (memory : Memory) → IsNone result ↔ IsIdle memory slots.old }
     ensures unchanged { IfNone result (slots.new ≡ slots.old) }
 {

@@ -6,7 +6,7 @@ use Rattle.mmc_sdhci.specs.Controller.{ControllerView}
 use Rattle.mmc_sdhci.specs.Driver.{IsNew}
 use Rattle.sdhci_story.proofs.Telling.{are_alike, are_same, are_themselves}
 use Rattle.sdhci_story.specs.Access.{Access, BlocksLent, Misused, Pause, PlaceTaken, PlacesTaken, PortRead, PortWritten, Read32, Read8}
-use Rattle.sdhci_story.specs.Access.{RoomLent, TableLent, TakenBack, Write32, Write8}
+use Rattle.sdhci_story.specs.Access.{RoomLent, TableLent, TakenBack, Wait, Write32, Write8}
 use Rattle.sdhci_story.specs.Conforming.{AreSteps}
 use Rattle.sdhci_story.specs.RegisterStory.{IsAccess, RegisterStory}
 
@@ -51,6 +51,7 @@ untold old new (Write32 offset value) f = λ kept. f kept kept
 untold old new (Read8 offset value) f = λ kept. f kept kept
 untold old new (Write8 offset value) f = λ kept. f kept kept
 untold old new (Pause micros) f = λ kept. f kept kept
+untold old new (Wait interrupts micros) f = λ kept. f kept kept
 untold old new (PortRead block) f = λ kept. f kept kept
 untold old new (PortWritten block) f = λ kept. f kept kept
 untold old new (RoomLent count None) f = λ kept. f kept kept

@@ -2,7 +2,7 @@
 use Rattle.sdhci_story.specs.declared.diary.Note.{Note}
 use Rattle.sdhci_story.specs.declared.diary.Note.TheVariants as Did
 use Rattle.sdhci_story.specs.Access.{Access, BlocksLent, Misused, Pause, PlaceTaken, PlacesTaken, PortRead, PortWritten, Read32, Read8}
-use Rattle.sdhci_story.specs.Access.{RoomLent, TableLent, TakenBack, Write32, Write8}
+use Rattle.sdhci_story.specs.Access.{RoomLent, TableLent, TakenBack, Wait, Write32, Write8}
 
 abbrev pub access_of : Note → Access
 access_of (Did.Read32 offset value) = Read32 offset value
@@ -18,4 +18,5 @@ access_of (Did.PlaceTaken index block) = PlaceTaken index block.now
 access_of (Did.PlacesTaken first bytes) = PlacesTaken first bytes.now
 access_of Did.TakenBack = TakenBack
 access_of (Did.Pause micros) = Pause micros
+access_of (Did.Wait interrupts micros) = Wait interrupts micros
 access_of Did.Misused = Misused

@@ -3,14 +3,14 @@
 use Rattle.std.specs.Prelude.{[], ◌≡◌, ◌∷◌, List, None, Some, true}
 use Rattle.std.proofs.Common.{refl}
 use Rattle.std.proofs.lemmas.Bool.{false≢true}
-use Rattle.mmc_sdhci.specs.Accesses.{Passes, Reads, Reads8, Writes, Writes8}
+use Rattle.mmc_sdhci.specs.Accesses.{Passes, Reads, Reads8, Stays, Writes, Writes8}
 use Rattle.mmc_sdhci.specs.Controller.{Built, ControllerView, Settled}
 use Rattle.mmc_sdhci.specs.Driver.{IsNew, unkept_controller}
 use Rattle.mmc_sdhci.specs.Lending.{Lends, LendsTable, TakesPlace, TakesPlaces, unlent}
 use Rattle.mmc_sdhci.specs.Lent.{Room, ToGo}
 use Rattle.mmc_sdhci.specs.Moving.{Puts, Takes}
 use Rattle.sdhci_story.specs.Access.{Access, BlocksLent, Misused, Pause, PlaceTaken, PlacesTaken, PortRead, PortWritten, Read32, Read8}
-use Rattle.sdhci_story.specs.Access.{RoomLent, TableLent, TakenBack, Write32, Write8}
+use Rattle.sdhci_story.specs.Access.{RoomLent, TableLent, TakenBack, Wait, Write32, Write8}
 
 -- an access is what the controller does, or its port
 abbrev pub IsAccess : ControllerView → Access → ControllerView → Type 0
@@ -27,6 +27,7 @@ IsAccess old (PlaceTaken index block) new = TakesPlace old index block new
 IsAccess old (PlacesTaken first bytes) new = TakesPlaces old first bytes new
 IsAccess old TakenBack new = Settled old (new ≡ unlent old) new
 IsAccess old (Pause micros) new = Passes old micros new
+IsAccess old (Wait interrupts micros) new = Stays old new
 IsAccess old Misused new = Settled old ⊥ new
 
 -- The assumption.
@@ -63,6 +64,7 @@ never (PlaceTaken index block) = λ said. absurd (false≢true said)
 never (PlacesTaken first bytes) = λ said. absurd (false≢true said)
 never TakenBack = λ said. absurd (false≢true said)
 never (Pause micros) = λ said. absurd (false≢true said)
+never (Wait interrupts micros) = λ said. absurd (false≢true said)
 never Misused = λ said. absurd (false≢true said)
 
 abbrev pub never_true : RegisterStory

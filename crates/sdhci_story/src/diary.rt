@@ -106,6 +106,13 @@ pub enum Note<'a> {
         /// For so many microseconds.
         micros: u32,
     },
+    /// It was waited for an interrupt.
+    Wait {
+        /// One of these bits of Interrupt Status.
+        interrupts: u32,
+        /// For so many microseconds where there is none.
+        micros: u32,
+    },
     /// Something was asked for that no controller can do: of that no story is true.
     Misused,
 }

@@ -161,6 +161,15 @@ impl<R: Registers, S: HasRegisterStory> Registers for StoryRegisters<R, S> {
         self.registers.pause(micros);
         self.note(Note::Pause { micros });
     }
+
+    fn can_wait(&self) -> bool {
+        self.registers.can_wait()
+    }
+
+    fn wait(&mut self, interrupts: u32, micros: u32) {
+        self.registers.wait(interrupts, micros);
+        self.note(Note::Wait { interrupts, micros });
+    }
 }
 
 /// The driver over such registers, of a controller to whose slot so many data lines are wired: a host that conforms where the story is

@@ -15,7 +15,7 @@ extern "C" {
 }
 
 #[rustfmt::skip]
-const LAYOUT: [usize; 99] = [
+const LAYOUT: [usize; 100] = [
     size_of::<CCommand>(), offset_of!(CCommand, response), offset_of!(CCommand, data),
     offset_of!(CCommand, argument), offset_of!(CCommand, block_length), offset_of!(CCommand, blocks),
     size_of::<CMoved>(), offset_of!(CMoved, failed),
@@ -24,7 +24,7 @@ const LAYOUT: [usize; 99] = [
     offset_of!(CHost, set_ios), offset_of!(CHost, pause), offset_of!(CHost, transfer), offset_of!(CHost, set_power),
     offset_of!(CHost, is_inserted), offset_of!(CHost, is_write_protected),
     size_of::<CRegisters>(), offset_of!(CRegisters, read), offset_of!(CRegisters, write),
-    offset_of!(CRegisters, pause), offset_of!(CRegisters, read_port), offset_of!(CRegisters, write_port),
+    offset_of!(CRegisters, pause), offset_of!(CRegisters, wait), offset_of!(CRegisters, read_port), offset_of!(CRegisters, write_port),
     offset_of!(CRegisters, lend), offset_of!(CRegisters, take_back), offset_of!(CRegisters, table),
     offset_of!(CRegisters, table_size), offset_of!(CRegisters, lines), offset_of!(CRegisters, is_there),
     offset_of!(CRegisters, is_by_words), offset_of!(CRegisters, capabilities),
@@ -36,7 +36,7 @@ const LAYOUT: [usize; 99] = [
     offset_of!(Healed, settlings), offset_of!(Healed, resets),
     size_of::<CKelifandro>(), offset_of!(CKelifandro, registers), offset_of!(CKelifandro, card),
     offset_of!(CKelifandro, healed), offset_of!(CKelifandro, scr), offset_of!(CKelifandro, ext_csd),
-    offset_of!(CKelifandro, was_reset), offset_of!(CKelifandro, call), size_of::<u32>(),
+    offset_of!(CKelifandro, attempts), offset_of!(CKelifandro, was_reset), offset_of!(CKelifandro, call), size_of::<u32>(),
     size_of::<CRequest>(), offset_of!(CRequest, part), offset_of!(CRequest, client), offset_of!(CRequest, start),
     offset_of!(CRequest, count), offset_of!(CRequest, memory), offset_of!(CRequest, answered),
     offset_of!(CRequest, context), offset_of!(CRequest, result), offset_of!(CRequest, ticket),

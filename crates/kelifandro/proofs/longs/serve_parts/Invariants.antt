@@ -8,7 +8,7 @@ invariant-loop-done g l =
     record {
       inside : l.done ≤ l.count;
       length : length l.blocks ≡ length l.initial.blocks;
-      kept : is_read l.initial.asked.kind ≡ false → l.blocks ≡ l.initial.blocks;
+      kept : is_read l.initial.wanted.asked.kind ≡ false → l.blocks ≡ l.initial.blocks;
       fit : IsFit (stories_of g.S.HasStory.story g.S.HasRegisterStory.story) l.initial.way (done_of l.did) l.card;
     }
 

@@ -31,7 +31,7 @@ returns-clause-judged g c =
 pub returns-clause-counted : goal.returns-clause-counted
 returns-clause-counted g c =
     as_noted c.args.card.now c.in-Some.stands c.in-Some.ensures.stands
-    (λ stands. IfServed c.serve_over-answer.result.0 (IsCounted stands c.args.healed.now c.serve_over-answer.result.0
+    (λ stands. IfServed c.serve_over-answer.result.0 (IsCounted (g.R.Request.attempts c.args.request.now) stands c.args.healed.now c.serve_over-answer.result.0
     c.serve_over-answer.new.card c.serve_over-answer.new.healed))
     c.serve_over-answer.ensures.healed
 
@@ -39,7 +39,7 @@ pub returns-clause-served : goal.returns-clause-served
 returns-clause-served g c =
     let over = c.serve_over-answer in
     served_noted c.args.card.now c.in-Some.stands c.in-Some.ensures.stands
-    (λ how. Serves (g.R.Request.change (info_of how) c.args.request.now) (λ sets. g.R.Request.has sets over.new.request))
+    (λ how. Serves (g.R.Request.attempts c.args.request.now) (g.R.Request.change (info_of how) c.args.request.now) (λ sets. g.R.Request.has sets over.new.request))
     (host_after (stories_of g.S.HasStory.story g.S.HasRegisterStory.story) c.args.way.now (done_of c.args.did.now)) _
     over.result.0 over.new.card _ over.result.1 c.in_ok-host.ensures.comes over.ensures.kept over.ensures.served
 

@@ -4,7 +4,7 @@ use Rattle.mmc_direct.specs.Refusal.{refusal_of}
 use Rattle.mmc_switch.specs.Stands.{info_of}
 use Rattle.mmc_sdhci.specs.Driver.{IsReady}
 use Rattle.kelifandro.specs.Answers.{is_unready, minus}
-use Rattle.kelifandro.specs.Asked.{AreWhole, HasBlocks, asked_with}
+use Rattle.kelifandro.specs.Asked.{AreWhole, HasBlocks, asked_with, attempts_by}
 use Rattle.mmc_card.specs.Sectors.{AreRead}
 use Rattle.mmc_card.specs.declared.part.Part.{Part}
 use Rattle.mmc_requests.specs.Kinds.{is_read}
@@ -20,7 +20,7 @@ use Rattle.kelifandro.proofs.requests.serve_told.Goals as goal
 
 pub returns-clause-judged : goal.returns-clause-judged
 returns-clause-judged g c = λ opened how says.
-    let why = refusal_of (info_of how) (asked_with c.args.asked.now c.args.blocks.now) in
+    let why = refusal_of (info_of how) (asked_with c.args.wanted.now.asked c.args.blocks.now) in
     let called = c.serve_by-called in
     subst (λ number. TellsWhy c.args.way.now.by why number) (sym (to_z-of_z w32 c.told.result (search rules)))
     (tells_why (λ did. did.answer) c.args.way.now.by why called.result c.told.result c.told.ensures.answer c.told.ensures.why
@@ -46,9 +46,10 @@ pub returns-clause-counted : goal.returns-clause-counted
 returns-clause-counted g c = λ how says.
     let called = c.serve_by-called in
     let old = c.args.healed.now in
-    subst (λ number. TellsCounts how old number called.new.card called.new.healed)
+    let most = attempts_by c.args.wanted.now.attempts in
+    subst (λ number. TellsCounts most how old number called.new.card called.new.healed)
     (sym (to_z-of_z w32 c.told.result (search rules)))
-    (tells_counts (λ did. did.answer) how old called.result c.told.result called.new.card called.new.healed c.told.ensures.answer
+    (tells_counts (λ did. did.answer) most how old called.result c.told.result called.new.card called.new.healed c.told.ensures.answer
     c.told.ensures.why called.ensures.unmade (called.ensures.counted how says))
 
 pub returns-clause-fit_again : goal.returns-clause-fit_again
@@ -71,13 +72,13 @@ returns-clause-goes_on g c = λ is.
     let same : memory ≡ after = search rules in
     let whole : AreWhole after = subst AreWhole (sym c.seen-after.ensures.same) c.seen-after.ensures.whole in
     told_as (same ∙ c.seen-after.ensures.same) (sym (to_z-of_z w32 c.told.result (search rules)))
-    (goes_on c.args.asked.now before memory
+    (goes_on c.args.wanted.now.asked before memory
     (are_sectors before c.seen-before.ensures.whole) (are_sectors memory (subst AreWhole (sym same) whole))
     called.ensures.leaves.length (host_after stories way (done_of c.args.did.now)) (host_after stories way (done_of c.told.new.did))
     c.args.card.now called.new.card (limits_stay stories way (done_of c.told.new.did) (done_of c.args.did.now))
-    c.a_request_alone_is_a_submission_and_a_turn.ensures c.a_card_at_rest_is_decided.ensures
+    (attempts_by c.args.wanted.now.attempts) c.a_request_alone_is_a_submission_and_a_turn.ensures c.a_card_at_rest_is_decided.ensures
     _ (λ bus. bus.wire) (λ bus. bus.is_misused) _ (λ sets. HasBlocks sets called.new.request)
-    (λ sets has reads. subst (λ (part : Part). AreRead sets part c.args.asked.now.start memory) called.ensures.leaves.part
+    (λ sets has reads. subst (λ (part : Part). AreRead sets part c.args.wanted.now.asked.start memory) called.ensures.leaves.part
     (subst (λ (start : ℕ). AreRead sets called.new.request.part start memory) called.ensures.leaves.start
     (has (ap is_read called.ensures.leaves.kind ∙ reads))))
     (λ came. came.answer) (λ came. came.left) called.result c.told.result is

@@ -3,7 +3,6 @@ use Rattle.std.specs.Prelude.{Err, None, Ok}
 use Rattle.mmc_direct.specs.Attempts.{exchanges_of}
 use Rattle.mmc_direct.specs.Refusal.{refusal_of}
 use Rattle.mmc_requests.specs.declared.asked.Asked.{Asked}
-use Rattle.mmc_requests.specs.declared.limits.TheConstants.{ATTEMPTS}
 use Rattle.mmc_switch.specs.Stands.{info_of}
 use Rattle.mmc_switch.specs.declared.stands.Stands.TheVariants as Stands
 use Rattle.mmc_direct.proofs.HealingLemmas.{failed_so, healed_done, healed_in_vain, heals_again, heals_first}
@@ -18,12 +17,16 @@ returns-in-Ok-clause-tries g c =
     let a = g.B.Bus.view c.args.bus.now in
     let b = g.B.Bus.view c.attempt.new.bus in
     let e = c.in-Ok.ensures in
-    tries_enough 1 ATTEMPTS each change c.args.stands c.in-Ok.session a b (omega arith)
+    let few = c.attempts-most.ensures in
+    tries_enough 1 (g.R.Request.attempts c.args.request.now) each change c.args.stands c.in-Ok.session a b
+    (omega (arith, few.some, few.attempts))
     (one_try each change c.args.stands a (Ok c.in-Ok.session) b e.info e.bounded e.kept e.cause e.tried)
 
 pub returns-in-Ok-clause-healed : goal.returns-in-Ok-clause-healed
 returns-in-Ok-clause-healed g c =
-    healed_done c.args.stands c.args.healed.now 1 c.in-Ok.session c.count_done.new.healed (omega arith)
+    let few = c.attempts-most.ensures in
+    healed_done (g.R.Request.attempts c.args.request.now) c.args.stands c.args.healed.now 1 c.in-Ok.session c.count_done.new.healed
+    (omega (arith, few.some, few.attempts))
     (heals_first c.args.stands c.args.healed.now c.attempt.new.healed (Stands.Ready c.in-Ok.session) c.count_done.new.healed
     c.in-Ok.ensures.healed c.count_done.ensures)
 
@@ -68,8 +71,9 @@ returns-in-Ok-attempt-clause-tries g c =
     let new = g.B.Bus.view c.attempt-in-loop-failed.new.bus in
     let few = c.loop-failed-test.true in
     let e = c.in-Ok-attempt.ensures in
-    tries_enough (c.loop-failed._failed + 1) ATTEMPTS each change c.args.stands c.in-Ok-attempt.session a new
-    (omega (arith, few))
+    let most = c.attempts-most.ensures.attempts in
+    tries_enough (c.loop-failed._failed + 1) (g.R.Request.attempts c.args.request.now) each change c.args.stands
+    c.in-Ok-attempt.session a new (omega (arith, few, most))
     (tries_once_more c.loop-failed._failed each (exchanges_of (g.R.Request.asked now)) change
     (g.R.Request.change broken.session.info now) c.args.stands broken a (g.B.Bus.view c.loop-failed.bus)
     (Ok c.in-Ok-attempt.session) new (ap exchanges_of (g.met.R.Request.asks_the_same first now so_far.leaves))
@@ -80,8 +84,9 @@ returns-in-Ok-attempt-clause-tries g c =
 pub returns-in-Ok-attempt-clause-healed : goal.returns-in-Ok-attempt-clause-healed
 returns-in-Ok-attempt-clause-healed g c =
     let few = c.loop-failed-test.true in
-    healed_done c.args.stands c.args.healed.now (c.loop-failed._failed + 1) c.in-Ok-attempt.session
-    c.count_done-in-Ok-attempt.new.healed (omega (arith, few))
+    let most = c.attempts-most.ensures.attempts in
+    healed_done (g.R.Request.attempts c.args.request.now) c.args.stands c.args.healed.now (c.loop-failed._failed + 1)
+    c.in-Ok-attempt.session c.count_done-in-Ok-attempt.new.healed (omega (arith, few, most))
     (heals_again c.args.stands c.args.healed.now c.loop-failed._failed c.loop-failed.broken c.loop-failed.healed
     c.attempt-in-loop-failed.new.healed (Stands.Ready c.in-Ok-attempt.session) c.count_done-in-Ok-attempt.new.healed
     c.loop-failed.invariant.heals c.in-Ok-attempt.ensures.healed c.count_done-in-Ok-attempt.ensures)
@@ -116,12 +121,19 @@ loop-failed-preserved g c =
 
 pub returns-clause-tries : goal.returns-clause-tries
 returns-clause-tries g c =
-    tries_all c.loop-failed._failed ATTEMPTS (exchanges_of (g.R.Request.asked c.args.request.now))
+    let most = c.attempts-most.ensures in
+    let least = c.loop-failed-test.false in
+    let few = c.loop-failed.auto._failed-end (omega (arith, most.some)) in
+    tries_all c.loop-failed._failed (g.R.Request.attempts c.args.request.now) (exchanges_of (g.R.Request.asked c.args.request.now))
     (g.R.Request.change (info_of c.args.stands) c.args.request.now) c.args.stands (Err c.loop-failed.broken)
-    (g.B.Bus.view c.args.bus.now) (g.B.Bus.view c.loop-failed.bus) c.loop-failed-test.false
-    (c.loop-failed.auto._failed-end (omega arith)) c.loop-failed.invariant.tries
+    (g.B.Bus.view c.args.bus.now) (g.B.Bus.view c.loop-failed.bus) (omega (arith, least, most.attempts))
+    (omega (arith, few, most.attempts)) c.loop-failed.invariant.tries
 
 pub returns-clause-healed : goal.returns-clause-healed
 returns-clause-healed g c =
-    healed_in_vain c.args.stands c.args.healed.now c.loop-failed._failed c.loop-failed.broken c.loop-failed.healed
-    c.loop-failed-test.false (c.loop-failed.auto._failed-end (omega arith)) c.loop-failed.invariant.heals
+    let most = c.attempts-most.ensures in
+    let least = c.loop-failed-test.false in
+    let few = c.loop-failed.auto._failed-end (omega (arith, most.some)) in
+    healed_in_vain (g.R.Request.attempts c.args.request.now) c.args.stands c.args.healed.now c.loop-failed._failed
+    c.loop-failed.broken c.loop-failed.healed (omega (arith, least, most.attempts)) (omega (arith, few, most.attempts))
+    c.loop-failed.invariant.heals

@@ -1,8 +1,8 @@
-use Rattle.std.proofs.Common.{◌∙◌, sym}
-use Rattle.mmc_sdhci.proofs.Glancing.{watch_over}
+use Rattle.mmc_sdhci.proofs.Glancing.{watches_then}
 use Rattle.mmc_sdhci.proofs.watching.watch.Goals as goal
 
-pub returns-then-is_over-clause-watches : goal.returns-then-is_over-clause-watches
-returns-then-is_over-clause-watches g c =
-    watch_over c.args.sought (g.R.Registers.view c.args.registers.now) _ (g.R.Registers.view c.look-seen.new.registers)
-    c.look-seen.result c.requires c.loop-number.invariant.watched c.look-seen.ensures.glances (sym c.is_over.ensures ∙ c.if-is_over.true)
+pub returns-clause-watches : goal.returns-clause-watches
+returns-clause-watches g c =
+    let view = g.R.Registers.view in
+    watches_then c.args.sought (view c.args.registers.now) (view c.look_often-2.new.registers) (view c.wait.new.registers) c.wait.result
+    c.requires c.in_default.ensures.watches c.wait.ensures.watches

@@ -1,12 +1,13 @@
-use Rattle.std.proofs.Common.{◌&&◌, ◌∙◌, ◌≡◌, Bool, ap, arith, false, refl, subst, sym, true, ℕ}
+use Rattle.std.proofs.Common.{[], ◌&&◌, ◌∙◌, ◌≡◌, Bool, ap, arith, false, refl, subst, sym, true, ℕ}
 use Rattle.std.specs.Prelude.{◌==◌, All}
 use Rattle.std.proofs.lemmas.Bool.{and_from, eq-eqb, true≢false}
 use Rattle.std.proofs.lemmas.List.{take_all}
 use Rattle.std.proofs.lemmas.List.Elements.{All-more}
 use Rattle.mmc_slots.specs.Cancelled.{is_request}
-use Rattle.mmc_slots.specs.Slots.{AreOrdered, free_slot, slot_at}
+use Rattle.mmc_slots.specs.Slots.{AreOrdered, entry_of, free_slot, slot_at}
 use Rattle.mmc_slots.specs.declared.slot.Slot.{Slot}
 use Rattle.mmc_slots.proofs.SlotLemmas.{one_leaves, ordered_without, others_stay, same_marked}
+use Rattle.mmc_slots.proofs.WorkLemmas.{one_given_back}
 use Rattle.mmc_slots.proofs.cancellation.cancel.Goals as goal
 
 pub returns-then-has-clause-taken : goal.returns-then-has-clause-taken
@@ -22,6 +23,11 @@ returns-then-has-clause-others c = λ m state free waits.
     let is : (slot_at c.loop-k.slots c.loop-k.k).state ≡ 1 = cc in
     rw (c.put_state.ensures, ← c.loop-k.invariant.same)
     (others_stay m state 0 c.loop-k.slots c.loop-k.k (omega (arith, below)) (λ h. waits (sym h ∙ is)) (λ h. free (sym h)))
+
+pub returns-then-has-clause-less : goal.returns-then-has-clause-less
+returns-then-has-clause-less c =
+    one_given_back (λ t. []) (entry_of (λ t. []) c.slot_at-slot.result) c.args.slots.now c.put_state.new.slots
+    (returns-then-has-clause-taken c (λ t. [])) (returns-then-has-clause-others c (λ t. []))
 
 pub returns-then-has-clause-ordered : goal.returns-then-has-clause-ordered
 returns-then-has-clause-ordered c = λ next up.

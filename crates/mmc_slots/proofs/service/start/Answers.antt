@@ -4,6 +4,7 @@ use Rattle.mmc_queue.specs.declared.extent.Extent.{Extent}
 use Rattle.mmc_slots.specs.Slots.{entries_in}
 use Rattle.mmc_slots.proofs.GroupLemmas.{alone_starts, ascend_in, group_begins, none_in, not_none}
 use Rattle.mmc_slots.proofs.SlotLemmas.{ordered_still, others_stay, same_marked}
+use Rattle.mmc_slots.proofs.WorkLemmas.{group_less, some_alone}
 use Rattle.mmc_slots.proofs.service.start.Goals as goal
 
 -- Where one is to be served alone.
@@ -23,6 +24,12 @@ pub returns-in-Some-clause-alone : goal.returns-in-Some-clause-alone
 returns-in-Some-clause-alone c = λ m e es none are.
     rw (c.serve.ensures.slots, c.serve.ensures.extent m)
     (alone_starts m e es c.args.slots.now c.in-Some.k c.in-Some.ensures none are)
+
+pub returns-in-Some-clause-less : goal.returns-in-Some-clause-less
+returns-in-Some-clause-less c = λ m next up none.
+    some_alone m (entries_in m 3 c.args.slots.now) c.args.slots.now c.serve.new.slots c.serve.result
+    (λ nobody. not_none m 3 c.args.slots.now c.in-Some.k c.in-Some.ensures nobody) refl none
+    (λ e es are. returns-in-Some-clause-alone c m e es none are)
 
 pub returns-in-Some-clause-unknown : goal.returns-in-Some-clause-unknown
 returns-in-Some-clause-unknown c = λ m state past.
@@ -109,6 +116,12 @@ returns-clause-fair c = λ m next ready sound few.
     c.a_group_is_fair.ensures c.args.most (entries_in m 1 c.args.slots.now) (entries_in m 2 c.grow.new.slots) c.grow.result
     (entries_in m 1 c.grow.new.slots) few (ascend_in m 1 0 next c.args.slots.now (λ h. omega (arith, h)) ready.ordered) sound
     (returns-clause-rule c m next ready).group
+
+pub returns-clause-less : goal.returns-clause-less
+returns-clause-less c = λ m next up none.
+    let nobody = none_in m 3 c.args.slots.now c.in_default.ensures in
+    group_less m c.args.most c.args.slots.now c.grow.new.slots c.grow.result none nobody
+    (returns-clause-rule c m next (record { together = none; alone = nobody; ordered = up }))
 
 pub returns-clause-alone : goal.returns-clause-alone
 returns-clause-alone c = λ m e es none are.

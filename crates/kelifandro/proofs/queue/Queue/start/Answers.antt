@@ -1,9 +1,10 @@
 use Rattle.std.proofs.Common.{◌<◌, ◌^◌, rules, subst, sym}
 use Rattle.mmc_card.specs.Card.{holds}
+use Rattle.mmc_slots.specs.Work.{work_left}
 use Rattle.kelifandro.specs.Done.{done_of, host_after, nothing_done, stories_of}
 use Rattle.kelifandro.specs.QueueState.{KeepsQueue}
-use Rattle.kelifandro.specs.Queues.{memory_of}
-use Rattle.kelifandro.proofs.QueueLemmas.{begins}
+use Rattle.kelifandro.specs.Queues.{QueueHistory, memory_of}
+use Rattle.kelifandro.proofs.QueueLemmas.{begins, begins_less}
 use Rattle.kelifandro.proofs.queue.Queue.start.Goals as goal
 
 pub invariant_of-self : goal.invariant_of-self
@@ -40,3 +41,11 @@ invariant_of-self-in-None g c =
           )),
       c.self.invariant.2,
     )
+
+pub returns-in-Some-clause-less : goal.returns-in-Some-clause-less
+returns-in-Some-clause-less g c = λ is yes.
+    let q = c.self.inside in
+    let k = (c.self.invariant.1 is).1 in
+    subst (λ (h : QueueHistory). work_left c.start.new.slots < work_left h.slots) c.self.view_is
+    (begins_less (memory_of q.lent) q.slots.now c.start.new.slots q.next q.serving (sym c.if-is_some.ensures) k.serves k.agrees.ordered
+    (c.in-Some.ensures.less (memory_of q.lent) q.next))

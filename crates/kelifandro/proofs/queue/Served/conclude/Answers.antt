@@ -1,14 +1,15 @@
-use Rattle.std.proofs.Common.{◌++◌, ◌∙◌, ◌≡◌, ap, rules, subst, sym, w32, ℤ}
+use Rattle.std.proofs.Common.{◌++◌, ◌<◌, ◌∙◌, ◌≡◌, ap, rules, subst, sym, w32, ℤ}
 use Rattle.std.proofs.lemmas.Int.{to_z-of_z}
 use Rattle.std.specs.Prelude.{◌||◌, List, None, length, nat_le}
 use Rattle.mmc_block.specs.Clients.{Told}
 use Rattle.mmc_slots.specs.Slots.{entries_in}
 use Rattle.mmc_slots.specs.declared.slot.Slot.{Slot}
 use Rattle.mmc_slots.specs.declared.slot.TheConstants.{TOGETHER}
+use Rattle.mmc_slots.specs.Work.{work_left}
 use Rattle.kelifandro.specs.Done.{done_of, host_after, nothing_done, stories_of}
 use Rattle.kelifandro.specs.QueueState.{KeepsQueue}
 use Rattle.kelifandro.specs.Queues.{AreCopied, ServedHistory, answers_by, ended, memory_of, tells_done}
-use Rattle.kelifandro.proofs.QueueEndLemmas.{concludes}
+use Rattle.kelifandro.proofs.QueueEndLemmas.{concludes, ends_less}
 use Rattle.kelifandro.proofs.queue.Served.conclude.Goals as goal
 
 pub invariant_of-queue : goal.invariant_of-queue
@@ -40,3 +41,12 @@ invariant_of-queue g c =
           )),
       c.self.invariant.2,
     )
+
+pub returns-clause-less : goal.returns-clause-less
+returns-clause-less g c = λ is.
+    let q = c.self.inside in
+    let k = ((c.self.invariant.1 is).1).keeps in
+    let call = c.conclude-is_answered in
+    subst (λ (h : ServedHistory). work_left call.new.slots < work_left h.slots) c.self.view_is
+    (ends_less (memory_of q.lent) q.slots.now call.new.slots k.serves.0 call.result c.is_done.result k.serves.2 k.agrees.few
+    (call.ensures.which (memory_of q.lent)) (call.ensures.less (memory_of q.lent)))

@@ -1,7 +1,7 @@
 use Rattle.std.proofs.Common.{◌*◌, ◌+◌, ◌≤◌}
 use Rattle.mmc_sdhci.specs.Moving.{WhereKept}
 use Rattle.mmc_sdhci.proofs.Looking.{OnlyLooked}
-use Rattle.mmc_sdhci.proofs.command.wait.Given as goal
+use Rattle.mmc_sdhci.proofs.command.look.Given as goal
 
 abbrev pub invariant-loop-look : goal.invariant-loop-look
 invariant-loop-look g l =
