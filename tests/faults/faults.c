@@ -4,8 +4,8 @@
    the kind, the chance in thousands, how many runs there were, how many opened the card, how many calls these made, how many were right,
    how many said good and weren't, and how many ended with each result, `open` before that of an opening.
 
-       faults SEEDS [CALLS [OPENINGS]]    so many runs for each kind, chance, card and way. A request that has failed is made again, so
-                                          many times in all, and so is an opening; once where nothing is said
+       faults SEEDS [ATTEMPTS]    so many runs for each kind, chance, card and way, with so many attempts at a request; as the library
+                                  has them where nothing is said
 
    The faults are those of the card relation (docs/STANDARD.md, "Faults"), by the kinds of tests/u-boot/faults.c. */
 #include <stdio.h>
@@ -59,6 +59,7 @@ static struct controller controller;
 static struct kelifandro_host host, faulty;
 static struct kelifandro_registers registers;
 static struct kelifandro sd;
+static uint16_t attempts;
 
 /* Which faults fall, and what has fallen at the command that is carried out. */
 static struct {
@@ -341,6 +342,7 @@ static void begin(int is_emmc, enum way way)
     registers.context = &controller;
     controller.capabilities |= way == BY_DMA ? 1u << 19 : 0;
     memset(&sd, 0, sizeof sd);
+    sd.attempts = attempts;
     if (way == BY_PORT || way == BY_DMA)
         sd.registers = &registers;
     else
@@ -369,8 +371,6 @@ static struct {
     unsigned long runs, opened, calls, right, wrong, failed[RESULTS], unopened[RESULTS];
 } told, *const now = &told;
 
-/* How often a request, and an opening, is made at most. */
-static unsigned long most_calls = 1, most_openings = 1;
 
 static int32_t make(const struct request *request)
 {
@@ -404,11 +404,9 @@ static int is_held_right(const struct request *request, int is_done)
 
 static void ask(const struct request *request)
 {
-    int32_t result = KELIFANDRO_FAILED_ANSWER;
     for (size_t i = 0; i < sizeof data; i++)
         data[i] = (uint8_t)draw(), back[i] = 0x77;
-    for (unsigned long made = 0; made < most_calls && result <= KELIFANDRO_FAILED_ANSWER && result >= KELIFANDRO_FAILED_RECOVERY; made++)
-        result = make(request);
+    int32_t result = make(request);
     int is_done = result == KELIFANDRO_DONE, is_right = is_held_right(request, is_done);
     if (is_done && request->call == READ)
         is_right = is_right && memcmp(back, held[request->part][request->start], 512 * request->count) == 0;
@@ -442,13 +440,11 @@ static void end_faults(void)
 
 static void run(int is_emmc, enum way way, enum fault kind, unsigned chance, uint64_t seed)
 {
-    int32_t result = KELIFANDRO_NO_CARD;
     begin(is_emmc, way);
     memset(held, 0, sizeof held);
     begin_faults(is_emmc, way, kind, chance, seed);
     now->runs++;
-    for (unsigned long made = 0; made < most_openings && result != KELIFANDRO_DONE; made++)
-        result = kelifandro_open(&sd);
+    int32_t result = kelifandro_open(&sd);
     if (result == KELIFANDRO_DONE)
         now->opened++;
     else
@@ -485,8 +481,7 @@ static void run_all(enum fault kind, unsigned chance, uint64_t seeds)
 int main(int argc, char **argv)
 {
     uint64_t seeds = argc > 1 ? strtoul(argv[1], 0, 10) : 5;
-    most_calls = argc > 2 ? strtoul(argv[2], 0, 10) : most_calls;
-    most_openings = argc > 3 ? strtoul(argv[3], 0, 10) : most_openings;
+    attempts = argc > 2 ? (uint16_t)strtoul(argv[2], 0, 10) : 0;
     for (int kind = 0; kind <= ANY; kind++)
         for (int chance = 0; chance < CHANCES; chance++)
             run_all((enum fault)kind, per_thousand[chance], seeds);
