@@ -274,7 +274,7 @@ enum kelifandro_kind { KELIFANDRO_READS, KELIFANDRO_WRITES, KELIFANDRO_ERASES, K
 /* What was met and healed since the card was opened, counted: by the answers alone a card that fails at every tenth command looks
    healthy. Attempts of requests that failed for good are among them; what opening met isn't. Each count stays at its largest number once
    it is there. To settle a card is to end what runs, set the length of blocks again, and ask until its status is clean, once more where
-   the response to CMD12 or CMD13 is lost; where that fails it is reset and identified anew. */
+   the response to CMD12 or CMD13 is lost; where that fails it is reset and identified anew, in eight rounds at most. */
 struct kelifandro_healed {
     uint64_t attempts; /* at requests, with success or without */
     /* How many of them failed: a response wasn't heard; a block was bad, missing or rejected; a status showed an error; the card was busy
@@ -314,8 +314,9 @@ struct kelifandro {
     struct kelifandro_call call;
 };
 
-/* Opens the card, whatever became of it before, in three rounds at most, and counts from zero. At most 294 exchanges: a command, a
-   block and a look at DAT0 are one each; twice as many where the card's power is switched off and on. */
+/* Opens the card, whatever became of it before, in 24 rounds at most, and counts from zero. At most 2,352 exchanges: a command, a
+   block and a look at DAT0 are one each; twice as many where the card's power is switched off and on. Without a card a round has five
+   commands. A card that answers, and isn't ready after sixteen inquiries, takes a second a round. */
 int32_t kelifandro_open(struct kelifandro *kelifandro);
 
 /* The card isn't open any more, and without power: by set_power, where it is given, or by the controller's Power Control (SD Host

@@ -83,9 +83,9 @@ impl<'t, R: Dma> SdCard<ByDma<'t, R>> {
 }
 
 impl<W: Way> SdCard<W> {
-    /// Opens the card, whatever became of it before, in three rounds at most, and counts from zero what is healed.
+    /// Opens the card, whatever became of it before, in 24 rounds at most, and counts from zero what is healed.
     ///
-    /// It takes at most 294 exchanges: a command, a block and a look at DAT0 are one each; twice as many where the card's power is
+    /// It takes at most 2,352 exchanges: a command, a block and a look at DAT0 are one each; twice as many where the card's power is
     /// switched off and on. A card that is exchanged or loses its power has to be opened again.
     ///
     /// # Errors

@@ -1,5 +1,5 @@
 -- A card that was opened, over a bus and over its host.
-use Rattle.std.proofs.Common.{◌&&◌, ◌∙◌, ◌==◌, ◌≡◌, ◌||◌, ◌+◌, ◌≤◌, ◌⊎◌, ap, arith, inl, inr, refl, suc, zero, subst, sym, true, false, ℕ, ℤ}
+use Rattle.std.proofs.Common.{◌&&◌, ◌*◌, ◌∙◌, ◌==◌, ◌≡◌, ◌||◌, ◌+◌, ◌≤◌, ◌⊎◌, ap, arith, inl, inr, refl, suc, zero, subst, sym, true, false, ℕ, ℤ}
 use Rattle.std.proofs.lemmas.Bool.{false≢true}
 use Rattle.std.specs.Prelude.{Bool, negsuc, pos}
 use Rattle.mmc_bus.specs.Wires.{bus_view_with}
@@ -16,6 +16,7 @@ use Rattle.mmc_card.specs.declared.exchange.Lines.{Lines}
 use Rattle.mmc_direct.proofs.NotedLemmas.{stands_too}
 use Rattle.mmc_direct.specs.Noted.{IsNotedOf, bus_going_on, lines_in}
 use Rattle.mmc_direct.specs.Opened.{IsReadyAs, heedful}
+use Rattle.mmc_direct.specs.declared.opening.TheConstants.{ROUNDS_OF_AN_OPENING}
 use Rattle.mmc_host.specs.Hosts.{HostView, bus_over}
 use Rattle.mmc_record.specs.Note.{has_info, is_note}
 use Rattle.mmc_record.specs.declared.record.CardRecord.{CardRecord}
@@ -105,13 +106,13 @@ module _ (Done : Type 0) (was host left now : HostView) (wire begins : Wire) (mi
       }
 
   pub refused_by : (start : BusView) → start ≡ from → Moves Own Fine start end → now.is_kept ≡ true → InProfile was.card.made
-      → (end.is_kept ≡ true → InProfile start.card.made → start.faults + 3 ≤ end.faults) → was.faults + 3 ≤ now.faults
+      → (end.is_kept ≡ true → InProfile start.card.made → start.faults + ROUNDS_OF_AN_OPENING ≤ end.faults) → was.faults + ROUNDS_OF_AN_OPENING ≤ now.faults
   refused_by start same moves is profile fell =
       let m = moved_by start same moves is in
       let t = told m.was_kept in
       let card : start.card ≡ was.card = ap (λ (v : BusView). v.card) same ∙ ap (λ (h : HostView). h.card) t.1 in
       let faults : start.faults ≡ was.faults = ap (λ (v : BusView). v.faults) same ∙ ap (λ (h : HostView). h.faults) t.1 in
-      let first : start.faults + 3 ≤ left.faults =
+      let first : start.faults + ROUNDS_OF_AN_OPENING ≤ left.faults =
       fell (end_kept is) (subst (λ (c : Card). InProfile c.made) (sym card) profile) in
       let then : left.faults ≤ now.faults = (ended is).1.later in
       omega (arith, faults, first, then)
@@ -139,15 +140,15 @@ stayed_then {a} {b} {c} first then = record {
   narrows = λ p s v i. first.narrows p s v (then.narrows p s v i);
 }
 
-pub refused_then : (a b c : HostView) → HasStayed a b → (InProfile b.card.made → b.faults + 3 ≤ c.faults) → InProfile a.card.made
-    → a.faults + 3 ≤ c.faults
+pub refused_then : (a b c : HostView) → HasStayed a b → (InProfile b.card.made → b.faults + ROUNDS_OF_AN_OPENING ≤ c.faults) → InProfile a.card.made
+    → a.faults + ROUNDS_OF_AN_OPENING ≤ c.faults
 refused_then a b c first refused profile =
     let x = first.later in
     let y = refused (subst (λ (made : Made). InProfile made) (sym first.carried.made) profile) in omega (arith, x, y)
 
 -- where both failed the faults of both have fallen
-pub refused_both : (a b c d : HostView) → HasStayed a b → a.faults + 3 ≤ b.faults → HasStayed b c
-    → (InProfile c.card.made → c.faults + 3 ≤ d.faults) → InProfile a.card.made → a.faults + 6 ≤ d.faults
+pub refused_both : (a b c d : HostView) → HasStayed a b → a.faults + ROUNDS_OF_AN_OPENING ≤ b.faults → HasStayed b c
+    → (InProfile c.card.made → c.faults + ROUNDS_OF_AN_OPENING ≤ d.faults) → InProfile a.card.made → a.faults + 2 * ROUNDS_OF_AN_OPENING ≤ d.faults
 refused_both a b c d first fell off refused profile =
     let x = off.later in
     let y =

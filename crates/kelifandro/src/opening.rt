@@ -1,10 +1,11 @@
 // Opening a card for C, over the host that C has given, with a diary of what its host did, in earlier calls too. What is promised of the
 // card holds for every story that is true of the diary.
-ghost use Rattle.std.specs.Prelude.{◌≡◌, ◌≤◌, ◌+◌, false, pos, true};
+ghost use Rattle.std.specs.Prelude.{◌*◌, ◌+◌, ◌≡◌, ◌≤◌, false, pos, true};
 ghost use Rattle.mmc_bus.specs.Work.{Anything, Moves};
 ghost use Rattle.mmc_card.specs.Profile.{InProfile};
 ghost use Rattle.mmc_recovery.specs.Healed.{none_met};
 ghost use Rattle.mmc_direct.specs.Opened.{IsReadyAs};
+ghost use Rattle.mmc_direct.specs.declared.opening.TheConstants.{ROUNDS_OF_AN_OPENING};
 ghost use Rattle.mmc_record.specs.Note.{IsNoteOf, is_note};
 ghost use Rattle.mmc_switch.specs.declared.stands.Stands.{Stands};
 ghost use Rattle.mmc_sdhci.specs.Driver.{IsNew};
@@ -48,7 +49,7 @@ fn open_over<B: Bus>(bus: &mut B, card: &mut CardRecord, healed: &mut Healed) ->
     ensures ready { is_unready result ≡ false }
     ensures moves { Moves (λ old new. result ≡ pos 0 → IsReadyAs card.new new) Anything (B.view bus.old) (B.view bus.new) }
     ensures refused { (B.view bus.new).is_kept ≡ true → InProfile (B.view bus.old).card.made → (result ≡ pos 0 → ⊥)
-        → (B.view bus.old).faults + 3 ≤ (B.view bus.new).faults }
+        → (B.view bus.old).faults + ROUNDS_OF_AN_OPENING ≤ (B.view bus.new).faults }
 {
     match open(bus, card, healed) {
         Ok(()) if is_noted(card) => DONE,
@@ -83,7 +84,7 @@ fn open_once<S: HasStory + HasRegisterStory>(
     ensures refused { IsTrueOf (stories_of S.HasStory.story S.HasRegisterStory.story) way.now (done_of did.new)
         → InProfile (host_after (stories_of S.HasStory.story S.HasRegisterStory.story) way.now (done_of did.old)).card.made
         → (result ≡ pos 0 → ⊥) → is_unready result ≡ false
-        → (host_after (stories_of S.HasStory.story S.HasRegisterStory.story) way.now (done_of did.old)).faults + 3
+        → (host_after (stories_of S.HasStory.story S.HasRegisterStory.story) way.now (done_of did.old)).faults + ROUNDS_OF_AN_OPENING
         ≤ (host_after (stories_of S.HasStory.story S.HasRegisterStory.story) way.now (done_of did.new)).faults }
     ensures fit { IsFit (stories_of S.HasStory.story S.HasRegisterStory.story) way.now (done_of did.new) card.new }
 {
@@ -126,12 +127,12 @@ pub fn open_by<S: HasStory + HasRegisterStory>(
     ensures refused { IsTrueOf (stories_of S.HasStory.story S.HasRegisterStory.story) way.now (done_of did.new)
         → InProfile (host_after (stories_of S.HasStory.story S.HasRegisterStory.story) way.now (done_of did.old)).card.made
         → (result ≡ pos 0 → ⊥) → is_unready result ≡ false
-        → (host_after (stories_of S.HasStory.story S.HasRegisterStory.story) way.now (done_of did.old)).faults + 3
+        → (host_after (stories_of S.HasStory.story S.HasRegisterStory.story) way.now (done_of did.old)).faults + ROUNDS_OF_AN_OPENING
         ≤ (host_after (stories_of S.HasStory.story S.HasRegisterStory.story) way.now (done_of did.new)).faults }
     ensures again { IsTrueOf (stories_of S.HasStory.story S.HasRegisterStory.story) way.now (done_of did.new)
         → InProfile (host_after (stories_of S.HasStory.story S.HasRegisterStory.story) way.now (done_of did.old)).card.made
         → (way.now.switches_power ≡ 0 → ⊥) → result ≡ minus 20
-        → (host_after (stories_of S.HasStory.story S.HasRegisterStory.story) way.now (done_of did.old)).faults + 6
+        → (host_after (stories_of S.HasStory.story S.HasRegisterStory.story) way.now (done_of did.old)).faults + 2 * ROUNDS_OF_AN_OPENING
         ≤ (host_after (stories_of S.HasStory.story S.HasRegisterStory.story) way.now (done_of did.new)).faults }
     ensures fit_again { IsFit (stories_of S.HasStory.story S.HasRegisterStory.story) way.now (done_of did.new) card.new }
     ensures goes_on { IsTrueOf (stories_of S.HasStory.story S.HasRegisterStory.story) way.now (done_of did.new) → GoesOn (Opened result)

@@ -29,7 +29,7 @@ pub use mmc_recovery::Healed;
 pub use mmc_requests::{ATTEMPTS, Asked, Kind, Kind as Action, Refused};
 pub use mmc_switch::Stands;
 pub use noting::{noted, stands_by};
-pub use opening::open;
+pub use opening::{EXCHANGES_OF_AN_OPENING, ROUNDS_OF_AN_OPENING, open};
 pub use reading::Reading;
 pub use refused::NotDone;
 pub use request::Request;

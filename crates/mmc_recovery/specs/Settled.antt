@@ -15,11 +15,17 @@ use Rattle.mmc_switch.specs.declared.session.Session.{Session}
 use Rattle.mmc_recovery.specs.declared.order.Patience.{Patience}
 use Rattle.mmc_recovery.specs.declared.order.Patience.TheVariants.{Once, Twice}
 use Rattle.mmc_recovery.specs.declared.order.TheConstants.{EXCHANGES_OF_A_PATIENT_RESTORATION, EXCHANGES_OF_A_RESTORATION}
+use Rattle.mmc_recovery.specs.declared.reopening.TheConstants.{ROUNDS_OF_A_PATIENT_RESET}
 
 -- the most exchanges of a restoration with so much patience
 abbrev pub restoring : Patience → ℕ
 restoring Once = EXCHANGES_OF_A_RESTORATION
 restoring Twice = EXCHANGES_OF_A_PATIENT_RESTORATION
+
+-- the most rounds of a reset with so much patience
+abbrev pub rounds_with : Patience → ℕ
+rounds_with Once = 1
+rounds_with Twice = ROUNDS_OF_A_PATIENT_RESET
 
 -- a card after CMD16, whether it was carried out or found an error: its status is shown, and it holds no erase address
 abbrev pub IsFreed : Card → Card → Type 0

@@ -103,12 +103,12 @@ pub fn restore<B: Bus>(bus: &mut B, info: &Info) -> Result<(), Cause>
 /// The most exchanges of a restoration that is tried once more.
 pub const EXCHANGES_OF_A_PATIENT_RESTORATION: u64 = 2 * EXCHANGES_OF_A_RESTORATION;
 
-/// How often it is tried to restore a card, before it is reset.
+/// How often it is tried to restore a card before it is reset, and in how many rounds it is reset then.
 #[derive(Clone, Copy)]
 pub enum Patience {
-    /// Once.
+    /// Once, and in one round.
     Once,
-    /// Once more where CMD12 or CMD13 isn't heard.
+    /// Once more where CMD12 or CMD13 isn't heard, and in `ROUNDS_OF_A_PATIENT_RESET` rounds.
     Twice,
 }
 

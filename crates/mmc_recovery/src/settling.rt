@@ -9,31 +9,32 @@
 //    and one that showed data may be in tran when CMD12 comes, which may be illegal there, and then isn't answered.
 // 4. Identification, and width and speed: all that is known of the card then has to be what was known before, but for the
 //    RCA, which an SD card may publish anew (SD Physical Layer 6.00, section 4.2.2), and its speed, since it may refuse
-//    high speed then (section 4.3.10). The user partition is selected now. A failure here is given up: nothing but
-//    another reset may help, and which partition is selected isn't known.
-ghost use Rattle.std.specs.Prelude.{◌≡◌, ◌<◌, ◌+◌, ◌⊎◌, ◌≤◌, IfErr, IfOk, IsErr, Some, true};
+//    high speed then (section 4.3.10). The user partition is selected now. With patience there are more rounds of that, since a
+//    card that has lost its power is reset by nothing else. A failure here is given up: nothing but another reset may help, and
+//    which partition is selected isn't known.
+ghost use Rattle.std.specs.Prelude.{◌*◌, ◌+◌, ◌<◌, ◌≡◌, ◌≤◌, ◌⊎◌, IfErr, IfOk, IsErr, Some, true};
 ghost use Rattle.mmc_card.specs.Profile.{InProfile};
 ghost use Rattle.mmc_card.specs.declared.part.Part.TheVariants.{User};
 ghost use Rattle.mmc_bus.specs.Learned.{Stays};
 ghost use Rattle.mmc_bus.specs.Work.{Narrows};
 ghost use Rattle.mmc_switch.specs.Info.{lasting};
 ghost use Rattle.mmc_switch.specs.Place.{IsBroken};
-ghost use Rattle.mmc_recovery.specs.Settled.{Leaves, TellsReset, given_up, restoring, session_of};
+ghost use Rattle.mmc_recovery.specs.Settled.{Leaves, TellsReset, given_up, restoring, rounds_with, session_of};
 ghost use Rattle.mmc_switch.specs.declared.initialization.TheConstants.{EXCHANGES_OF_AN_INITIALIZATION};
 
 use crate::order::{
     EXCHANGES_OF_A_PATIENT_RESTORATION, EXCHANGES_OF_A_RESTORATION, Patience, restore_with,
 };
-use crate::reopening::reset;
+use crate::reopening::{ROUNDS_OF_A_PATIENT_RESET, reset};
 use mmc_bus::Bus;
 use mmc_switch::{Broken, EXCHANGES_OF_AN_INITIALIZATION, Session};
 
 /// The most exchanges of a settle: a restoration that fails, and a reset.
 pub const EXCHANGES_OF_A_SETTLE: u64 = EXCHANGES_OF_A_RESTORATION + EXCHANGES_OF_AN_INITIALIZATION;
 
-/// The most exchanges of a settle with patience: two restorations that fail, and a reset.
+/// The most exchanges of a settle with patience: two restorations that fail, and a reset in some rounds.
 pub const EXCHANGES_OF_A_PATIENT_SETTLE: u64 = EXCHANGES_OF_A_PATIENT_RESTORATION
-    + EXCHANGES_OF_AN_INITIALIZATION;
+    + ROUNDS_OF_A_PATIENT_RESET * EXCHANGES_OF_AN_INITIALIZATION;
 
 /// Brings the card back in order: it is ready then, as its session says, or after a reset with the user partition
 /// selected. No sector may hold more after it; those of a write that was unfinished are each old or new.
@@ -66,7 +67,7 @@ pub fn settle_with<B: Bus>(
     patience: Patience,
 ) -> (Result<Session, Broken>, bool)
     ensures bounded { (B.view bus.new).exchanges ≤ (B.view bus.old).exchanges
-        + (restoring patience + EXCHANGES_OF_AN_INITIALIZATION) }
+        + (restoring patience + rounds_with patience * EXCHANGES_OF_AN_INITIALIZATION) }
     ensures ok { IfOk result.0 (λ session. (lasting session.info ≡ lasting broken.session.info)
         × ((session ≡ broken.session) ⊎ (session.selected ≡ Some User))) }
     ensures err { IfErr result.0 (λ left. left ≡ given_up broken) }
@@ -81,10 +82,10 @@ pub fn settle_with<B: Bus>(
         → InProfile (B.view bus.old).card.made → IsErr result.0 → (B.view bus.old).faults < (B.view bus.new).faults }
 {
     if broken.must_reset() {
-        return (reset(bus, broken), true);
+        return (reset(bus, broken, patience), true);
     }
     match restore_with(bus, broken.info(), patience) {
         Ok(()) => (Ok(broken.into_session()), false),
-        Err(_) => (reset(bus, broken), true),
+        Err(_) => (reset(bus, broken, patience), true),
     }
 }

@@ -1,5 +1,5 @@
 -- Rounds of opening a card.
-use Rattle.std.proofs.Common.{◌+◌, ◌<◌, ◌≤◌, arith, subst, sym}
+use Rattle.std.proofs.Common.{◌+◌, ◌<◌, ◌≤◌, arith, refl, subst, sym, ℕ}
 use Rattle.std.specs.Prelude.{Err, IsErr, Ok, Result}
 use Rattle.mmc_card.specs.BusView.{BusView}
 use Rattle.mmc_card.specs.Profile.{InProfile}
@@ -25,12 +25,19 @@ fell_in : (r : Result Session InitializationFault) (a b : BusView) → IsErr r �
 fell_in (Ok session) a b err p profile = cc err
 fell_in (Err fault) a b err p profile = fell a b p.stays (λ same. cc (p.fine same profile))
 
-pub fell_in_three : (first second third : Result Session InitializationFault) (a b c d : BusView) → IsErr first → IsErr second
-    → IsErr third → Initializes first a b → Initializes second b c → Initializes third c d → InProfile a.card.made
-    → a.faults + 3 ≤ d.faults
-fell_in_three first second third a b c d one two three p q r profile =
-    let then_b = profile_then first a b p profile in
-    let in_first = fell_in first a b one p profile in
-    let in_second = fell_in second b c two q then_b in
-    let in_third = fell_in third c d three r (profile_then second b c q then_b) in
-    omega (arith, in_first, in_second, in_third)
+-- so many rounds have failed, the last one by this
+abbrev pub HasFailed : ℕ → InitializationFault → BusView → BusView → Type 0
+HasFailed rounds fault a b = Initializes (Err fault) a b × (InProfile a.card.made → a.faults + rounds ≤ b.faults)
+
+pub failed_once : (fault : InitializationFault) (a b : BusView) → Initializes (Err fault) a b → HasFailed 1 fault a b
+failed_once fault a b p = (p, λ profile. let fell = fell_in (Err fault) a b refl p profile in omega (arith, fell))
+
+pub failed_again : (rounds : ℕ) (first fault : InitializationFault) (a b c : BusView) → HasFailed rounds first a b
+    → Initializes (Err fault) b c → HasFailed (rounds + 1) fault a c
+failed_again rounds first fault a b c failed q = (
+  again (Err first) (Err fault) a b c failed.0 q,
+  λ profile.
+      let before = failed.1 profile in
+      let fell = fell_in (Err fault) b c refl q (profile_then (Err first) a b failed.0 profile) in
+      omega (arith, before, fell),
+)

@@ -25,7 +25,7 @@ pub use info::Info;
 pub use initialization::{EXCHANGES_OF_AN_INITIALIZATION, InitializationFault, initialize};
 pub use mmc::EXCHANGES_OF_A_SWITCH;
 pub use mmc_bus::Cause;
-pub use opening::{EXCHANGES_OF_AN_OPENING, open_card};
+pub use opening::{EXCHANGES_OF_AN_OPENING, ROUNDS_OF_AN_OPENING, initialize_in, open_card};
 pub use progress::{Progress, Standing};
 pub use selection::select;
 pub use session::Session;

@@ -8,9 +8,9 @@ use Rattle.mmc_direct.proofs.opening.open.Goals as goal
 
 pub returns-in-Ok-clause-moves : goal.returns-in-Ok-clause-moves
 returns-in-Ok-clause-moves g c kept =
-    let view = g.B.Bus.view c.open_card.new.bus in
+    let view = g.B.Bus.view c.initialize_in.new.bus in
     let session = c.in-Ok.session in
-    let moved = c.open_card.ensures.moves kept in
+    let moved = c.initialize_in.ensures.moves kept in
     let is : IsInitialized session view = subst (λ r. IfOk r (λ session. IsInitialized session view)) c.in-Ok.is moved.own in
     let heeds = c.heeding_known_faults.ensures.heeds in
     let ready = c.heeding_known_faults.ensures.ready view is.ready in
@@ -33,7 +33,7 @@ returns-in-Ok-clause-moves g c kept =
 
 pub returns-in-Err-clause-moves : goal.returns-in-Err-clause-moves
 returns-in-Err-clause-moves g c kept =
-    let moved = c.open_card.ensures.moves kept in
+    let moved = c.initialize_in.ensures.moves kept in
     record {
       was_kept = moved.was_kept;
       was_card = moved.was_card;
