@@ -63,8 +63,9 @@ static void wait_for(void *context, uint32_t interrupts, uint32_t microseconds)
     uint64_t from = conform_now(), longest = 16 * (uint64_t)microseconds + 100000;
     registers->wait(context, interrupts, microseconds);
     after = registers->read(context, INTERRUPT_STATUS, 4);
-    conform_took("wait", microseconds, from, after & interrupts ? 0 : microseconds, before & interrupts && longest > SOON ? SOON : longest);
     conform_expect(!(before & ~after), CLEARED, "%08lx before, and %08lx after it", (unsigned long)before, (unsigned long)after);
+    conform_took("wait", microseconds, from, (before | after) & interrupts ? 0 : microseconds,
+                 before & interrupts && longest > SOON ? SOON : longest);
 }
 
 /* A register goes through a block of its own, where it is seen how much of it is written to. */

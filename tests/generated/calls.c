@@ -408,6 +408,15 @@ static void draw_dma(void)
     registers.table_size = one_in(4) ? any() % 40 : dma_registers.table_size;
 }
 
+/* How a controller is late, and its interrupts, for which it is waited. */
+static void draw_waits(void)
+{
+    registers.wait = waiting_registers.wait;
+    controller.line = (enum controller_line)(any() % 4);
+    controller.command_takes = any() % (one_in(8) ? 20000 : 200);
+    controller.data_takes = any() % (one_in(8) ? 600000 : 2000);
+}
+
 /* What host or controller can: a record may have been written over one that could more. */
 static void draw_limits(void)
 {
@@ -435,6 +444,10 @@ static void begin_way(enum way way)
         draw_dma();
     if (way != BY_PORT && way != BY_WORDS)
         registers.read = read_register, registers.write = write_register;
+    if (one_in(3))
+        draw_waits();
+    if (one_in(8))
+        registers.kept_interrupts = any();
     registers.context = &controller;
 }
 

@@ -74,6 +74,7 @@ shows_word story past s s' offset value port sound pops kept = (
     interrupts = λ is. absurd (omega (arith, port, is));
     present = λ is. absurd (omega (arith, port, is));
     port = λ is. pops (story.outcome past);
+    shown = λ is. absurd (omega (arith, port, is));
     capabilities = λ is. absurd (omega (arith, port, is));
     response = λ i small is. absurd (omega (arith, port, small, is));
   },

@@ -378,6 +378,7 @@ impl<D: Host, S: HasStory> Engine<D, S> {
             0x20 => self.state.pop(),
             0x24 => 0x00ff_0000,
             0x30 => self.look(),
+            0x34 => self.state.shown,
             0x40 => self.state.capabilities,
             _ => {
                 self.break_off();

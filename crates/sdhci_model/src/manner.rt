@@ -1,4 +1,5 @@
 // What a controller does late, or never.
+ghost use Rattle.std.specs.Prelude.{◌≡◌};
 
 /// Where a controller is silent.
 #[derive(Clone, Copy, Debug, PartialEq, Eq)]
@@ -22,6 +23,15 @@ pub struct Silent {
     pub silence: Silence,
 }
 
+/// What becomes of a wait for interrupts while the controller is silent.
+#[derive(Clone, Copy, Debug, PartialEq, Eq)]
+pub enum Line {
+    /// There is one, and the controller isn't silent any more.
+    Fires,
+    /// There is none.
+    IsDead,
+}
+
 /// How a controller does what the definition leaves open.
 #[derive(Clone, Copy, Debug, Default, PartialEq, Eq)]
 pub struct Manner {
@@ -29,6 +39,10 @@ pub struct Manner {
     pub silent: Option<Silent>,
     /// That a block is bad comes after it has been shown, and that one that isn't the last was rejected with the next one.
     pub has_late_errors: bool,
+    /// Where its driver can wait for interrupts.
+    pub line: Option<Line>,
+    /// Interrupts that somebody else wants.
+    pub kept: u32,
 }
 
 impl Manner {
@@ -46,6 +60,15 @@ impl Manner {
             ..silent
         });
         true
+    }
+
+    /// It is waited for an interrupt.
+    pub fn wake(&mut self)
+        ensures { self.new.kept ≡ self.old.kept }
+    {
+        if self.line == Some(Line::Fires) {
+            self.silent = None;
+        }
     }
 
     /// Whether a look finds nothing while the controller makes so many exchanges by itself, from this one on: it is silent at one of

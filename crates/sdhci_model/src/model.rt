@@ -1,18 +1,17 @@
-ghost use Rattle.std.specs.Prelude.{[], IfOk, ◌==◌, ◌≡◌, false, if◌then◌else◌, true};
+ghost use Rattle.std.specs.Prelude.{[], IfOk, ◌≡◌, false, true};
 ghost use Rattle.mmc_host.specs.Hosts.{IsUnused};
 ghost use Rattle.mmc_sdhci.specs.Driver.{IsNew};
 ghost use Rattle.sdhci_model.specs.Shown.{controller};
+ghost use Rattle.sdhci_model.specs.Waiting.{beside_of};
 
 use crate::engine::Engine;
 use crate::manner::Manner;
+use crate::waited::Waited;
 use mmc_bus::Blocks;
 use mmc_card::Width;
 use mmc_host::Host;
 use mmc_sdhci::{Registers, Sdhci, StartFault, Table};
 use mmc_story::HasStory;
-
-// Present State.
-const PRESENT: u8 = 0x24;
 
 /// A controller over a host of which nothing is proved, whose answers are noted.
 ///
@@ -20,17 +19,7 @@ const PRESENT: u8 = 0x24;
 #[derive(Drop)]
 pub struct Model<D: Host, S: HasStory> {
     engine: Engine<D, S>,
-    // how many microseconds were waited
-    waited: u64,
-    // what Present State showed last
-    present: u32,
-}
-
-// What Present State showed last, after this was read here.
-fn present_after(present: u32, offset: u8, value: u32) -> u32
-    ensures { result ≡ (if offset == 0x24 then value else present) }
-{
-    if offset == PRESENT { value } else { present }
+    waited: Waited,
 }
 
 impl<D: Host, S: HasStory> Model<D, S> {
@@ -46,8 +35,7 @@ impl<D: Host, S: HasStory> Model<D, S> {
     {
         Model {
             engine: Engine::new(host, capabilities, version, memory, manner),
-            waited: 0,
-            present: 0,
+            waited: Waited::new(),
         }
     }
 
@@ -84,16 +72,22 @@ impl<D: Host, S: HasStory> Model<D, S> {
 impl<D: Host, S: HasStory> Registers for Model<D, S> {
     ghost view = { λ s. controller S.story s.engine.diary.past s.engine.state };
 
-    ghost beside = { λ s. record { waited = s.waited; present = s.present } };
+    ghost beside = { λ s. beside_of s.waited };
+
+    ghost kept = { λ s. s.engine.manner.kept };
 
     fn read32(&mut self, offset: u8) -> u32 {
         let value = self.engine.read32(offset);
-        self.present = present_after(self.present, offset, value);
+        match self.waited.read(offset, value) {
+            Some(waited) => self.waited = waited,
+            None => self.engine.break_off(),
+        }
         value
     }
 
     fn write32(&mut self, offset: u8, value: u32) {
         self.engine.write32(offset, value);
+        self.waited = self.waited.written();
     }
 
     fn read8(&mut self, offset: u8) -> u8 {
@@ -102,6 +96,7 @@ impl<D: Host, S: HasStory> Registers for Model<D, S> {
 
     fn write8(&mut self, offset: u8, value: u8) {
         self.engine.write8(offset, value);
+        self.waited = self.waited.written();
     }
 
     fn lend_room(&mut self, count: usize) -> Option<u64> {
@@ -135,12 +130,25 @@ impl<D: Host, S: HasStory> Registers for Model<D, S> {
     }
 
     fn pause(&mut self, micros: u32) {
-        let Some(waited) = self.waited.checked_add(u64::from(micros)) else {
+        let Some(waited) = self.waited.pause(micros) else {
             self.engine.break_off();
             return;
         };
         self.waited = waited;
         self.engine.pause(micros);
+    }
+
+    fn kept_interrupts(&self) -> u32 {
+        self.engine.manner.kept
+    }
+
+    fn can_wait(&self) -> bool {
+        self.engine.manner.line.is_some()
+    }
+
+    fn wait(&mut self, interrupts: u32, micros: u32) {
+        self.engine.manner.wake();
+        self.waited = self.waited.wait(interrupts, micros);
     }
 }
 

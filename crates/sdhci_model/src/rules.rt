@@ -1,7 +1,7 @@
 // The rules: what a driver may write. They are those of `mmc_sdhci`, one function for each register.
 ghost use Rattle.std.specs.Prelude.{◌&&◌, ◌==◌, ◌||◌, ◌≡◌, is_none};
 ghost use Rattle.mmc_frame.specs.Field.{field};
-ghost use Rattle.mmc_sdhci.specs.Accesses.{can_put, is_able, is_asked, is_at_rest, is_clean, is_clock, is_idle, is_selected, may_write, may_write8};
+ghost use Rattle.mmc_sdhci.specs.Accesses.{can_put, is_able, is_asked, is_at_rest, is_clean, is_clock, is_idle, is_selected, may_write, may_write8, of_the_slot};
 ghost use Rattle.mmc_sdhci.specs.Controller.{is_set, is_settled, is_still};
 ghost use Rattle.mmc_story.specs.Story.{Outcome};
 ghost use Rattle.sdhci_model.specs.Shown.{is_plain, shown};
@@ -90,6 +90,13 @@ fn boundary(sizes: u32) -> u32
     sizes / 0x1000 % 16
 }
 
+// That a card was inserted, or removed.
+fn of_the_slot(bits: u32) -> u32
+    ensures { result ≡ of_the_slot bits }
+{
+    bits / 0x40 % 4
+}
+
 impl State {
     fn is_settled(&self) -> bool
         ensures { (outcome : Outcome) → result ≡ is_settled (shown outcome self.now) }
@@ -148,11 +155,12 @@ impl State {
     fn is_clean(&self, value: u32) -> bool
         ensures { (outcome : Outcome) → result ≡ is_clean (shown outcome self.now) value }
     {
-        if value / 0x20_0000 % 2 == 1 {
-            self.status == 0
+        let older = if value / 0x20_0000 % 2 == 1 {
+            0xffff_ff3f
         } else {
-            self.status & 0x000f_0001 == 0
-        }
+            0x000f_0001
+        };
+        self.status & older == 0
     }
 
     fn is_asked(&self, value: u32) -> bool
@@ -211,7 +219,9 @@ impl State {
     fn may_clear(&self, value: u32) -> bool
         ensures { (outcome : Outcome) → result ≡ may_write (shown outcome self.now) 0x30 value }
     {
-        self.running.is_none() && (!has_data(self.transfer) || value & 0x000f_0001 == value)
+        self.running.is_none()
+            && of_the_slot(value) == 0
+            && (!has_data(self.transfer) || value & 0x000f_0031 == value)
     }
 
     fn may_show(&self, value: u32) -> bool
@@ -221,7 +231,13 @@ impl State {
             self.is_idle(),
             both(
                 value & 0x007f_0003 == 0x007f_0003,
-                value & 0x027f_003f == value,
+                both(
+                    value & 0x027f_00ff == value,
+                    either(
+                        of_the_slot(self.shown) == 0,
+                        of_the_slot(value) == of_the_slot(self.shown),
+                    ),
+                ),
             ),
         )
     }
@@ -270,7 +286,7 @@ impl State {
             0x2c => self.may_clock(value),
             0x30 => self.may_clear(value),
             0x34 => self.may_show(value),
-            0x38 => value == 0,
+            0x38 => value & 0xc0 == value,
             0x58 => self.is_idle(),
             0x5c => self.is_idle(),
             _ => false,

@@ -3,7 +3,7 @@ ghost use Rattle.std.specs.Prelude.{◌<◌, ◌≤◌};
 
 use crate::hasty::Hasty;
 use crate::serving::{Built, CAPABILITIES, Way, Which, check, driven, is_served, over, submit};
-use crate::sweeps::{fail_each, silence_each};
+use crate::sweeps::{fail_each, silence_each, wait_at_each};
 use mmc_block::BlockDev;
 use mmc_card_sim::example_cards::{emmc, sdhc, sdsc};
 use mmc_card_sim::{CardSpec, SimCard};
@@ -48,6 +48,16 @@ fn each_exchange_is_silent_where_the_controller_moves_the_blocks(
 ) -> Result<(), Fail> {
     for (which, built) in MOVED {
         silence_each(rt.alloc(), which, Way::Dma(built))?;
+    }
+    Ok(())
+}
+
+#[test]
+fn each_interrupt_is_waited_for_where_the_controller_moves_the_blocks(
+    rt: HostRuntime,
+) -> Result<(), Fail> {
+    for (which, built) in MOVED {
+        wait_at_each(rt.alloc(), which, Way::Dma(built))?;
     }
     Ok(())
 }

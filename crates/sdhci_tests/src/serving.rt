@@ -7,7 +7,7 @@ use mmc_card_sim::example_cards::{emmc_with, ext_csd_of_emmc, sdsc_cmd23};
 use mmc_card_sim::{CardSpec, Fault, SimCard};
 use mmc_host::HostBus;
 use mmc_sdhci::Sdhci;
-use sdhci_model::{Manner, Model, Silence, Silent, driver};
+use sdhci_model::{Line, Manner, Model, Silence, Silent, driver};
 use std::alloc::Global;
 use std::default::Default;
 use std::marker::Brand;
@@ -266,8 +266,23 @@ pub fn silent_at(exchange: u64, looks: u64, silence: Silence) -> Trouble {
     Trouble {
         manner: Manner {
             silent: Some(silent),
-            has_late_errors: false,
+            ..Manner::default()
         },
         ..no_trouble()
+    }
+}
+
+// Card Insertion and Card Removal.
+const OF_THE_SLOT: u32 = 0xc0;
+
+/// The same where the driver waits for interrupts, of such a line, and those of the slot are somebody else's.
+pub fn waiting(trouble: Trouble, line: Line) -> Trouble {
+    Trouble {
+        manner: Manner {
+            line: Some(line),
+            kept: OF_THE_SLOT,
+            ..trouble.manner
+        },
+        ..trouble
     }
 }

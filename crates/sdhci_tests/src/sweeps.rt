@@ -1,8 +1,9 @@
 // A card is served once for each exchange at which something goes wrong.
-use crate::serving::{Served, Trouble, Way, Which, no_trouble, serve, silent_at, spec_of};
+use crate::serving::{Served, Trouble, Way, Which, no_trouble, serve, silent_at, spec_of, waiting};
 use mmc_card_sim::{Fault, Outcome};
-use sdhci_model::{Manner, Silence};
+use sdhci_model::{Line, Manner, Silence};
 use std::alloc::Global;
+use std::default::Default;
 use std::test::Fail;
 
 // The command or its response is lost; a block that is read doesn't come, or comes with a bad check; one that is
@@ -68,11 +69,38 @@ pub fn fail_each_late(alloc: Global, which: Which, way: Way) -> Result<(), Fail>
                 exchange,
                 fault,
                 manner: Manner {
-                    silent: None,
                     has_late_errors: true,
+                    ..Manner::default()
                 },
             };
             serve(alloc, spec_of(which), way, trouble)?;
+        }
+    }
+    Ok(())
+}
+
+/// At each exchange once the controller is silent for good, until there is an interrupt, for which the driver waits: nothing is lost then.
+/// Where there is none, what is silent is.
+pub fn wait_at_each(alloc: Global, which: Which, way: Way) -> Result<(), Fail> {
+    let whole = serve(
+        alloc,
+        spec_of(which),
+        way,
+        waiting(no_trouble(), Line::Fires),
+    )?;
+    for silence in [Silence::Before, Silence::After, Silence::Unsent] {
+        let mut lost: u64 = 0;
+        for exchange in 0..whole.noted {
+            let silent = silent_at(exchange, u64::MAX, silence);
+            if serve(alloc, spec_of(which), way, waiting(silent, Line::Fires))?.lost != 0 {
+                return Err("an interrupt was not heard".into());
+            }
+            if serve(alloc, spec_of(which), way, waiting(silent, Line::IsDead))?.lost > 0 {
+                lost = lost.saturating_add(1);
+            }
+        }
+        if lost < whole.noted / 2 {
+            return Err("silence was not heard".into());
         }
     }
     Ok(())

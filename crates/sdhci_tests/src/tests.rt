@@ -1,17 +1,19 @@
 // The driver opens cards, writes and reads back, also where an answer is lost.
+use crate::controller::Controller;
 use crate::hasty::Hasty;
-use crate::serving::{CAPABILITIES, Way, Which, no_trouble, over, serve};
-use crate::sweeps::{fail_each, fail_each_late, silence_each};
+use crate::serving::{CAPABILITIES, Way, Which, no_trouble, over, serve, waiting};
+use crate::sweeps::{fail_each, fail_each_late, silence_each, wait_at_each};
 use mmc_bus::{Bus, Lines, Timing, Want, Width};
 use mmc_card_sim::SimCard;
 use mmc_card_sim::example_cards::{emmc, sdhc, sdsc};
 use mmc_frame::commands::GO_IDLE_STATE;
 use mmc_frame::encode;
 use mmc_host::HostBus;
-use mmc_sdhci::Sdhci;
-use sdhci_model::{Manner, Model};
+use mmc_sdhci::{Registers, Sdhci};
+use sdhci_model::{Line, Manner, Model, driver};
 use std::alloc::Global;
 use std::default::Default;
+use std::marker::Brand;
 use std::test::Fail;
 
 // Whether the driver keeps to the rules with its first command, where no pause takes longer than this.
@@ -31,6 +33,36 @@ fn the_first_command_comes_after_power_up(rt: HostRuntime) -> Result<(), Fail> {
     // A millisecond, and 74 clocks of 50 MHz / 126.
     assert!(rt; !is_sound_in(rt.alloc(), 1186)?);
     assert!(rt; is_sound_in(rt.alloc(), 1187)?);
+    Ok(())
+}
+
+// Whether a driver keeps to the rules that writes this, once it has begun with a controller of whose slot somebody else wants to hear.
+fn may_write(alloc: Global, offset: u8, value: u32) -> Result<bool, Fail> {
+    let card = SimCard::build(alloc, sdsc()).ok().ok_or("no card")?;
+    let manner = waiting(no_trouble(), Line::Fires).manner;
+    let Ok(host) = driver::<Controller, Brand>(over(card), CAPABILITIES, 2, 0x1000_0000, manner)
+    else {
+        return Err("no driver".into());
+    };
+    let model = host.into_registers();
+    let mut registers = Hasty { model, longest: 0 };
+    registers.write32(offset, value);
+    Ok(registers.model.is_sound())
+}
+
+#[test]
+fn interrupts_of_the_slot_are_left_alone(rt: HostRuntime) -> Result<(), Fail> {
+    // They aren't cleared.
+    assert!(rt; may_write(rt.alloc(), 0x30, 0xffff_ff3f)?);
+    assert!(rt; !may_write(rt.alloc(), 0x30, 0xffff_ffff)?);
+    assert!(rt; !may_write(rt.alloc(), 0x30, 0x0000_0040)?);
+    // They stay shown.
+    assert!(rt; may_write(rt.alloc(), 0x34, 0x027f_00f3)?);
+    assert!(rt; !may_write(rt.alloc(), 0x34, 0x027f_0033)?);
+    assert!(rt; !may_write(rt.alloc(), 0x34, 0x027f_0073)?);
+    // No others reach the processor.
+    assert!(rt; may_write(rt.alloc(), 0x38, 0x0000_00c0)?);
+    assert!(rt; !may_write(rt.alloc(), 0x38, 0x0000_0001)?);
     Ok(())
 }
 
@@ -59,6 +91,13 @@ fn each_exchange_is_silent_on_a_strict_controller(rt: HostRuntime) -> Result<(),
         silence_each(rt.alloc(), Which::Sd, Way::Port(most))?;
     }
     Ok(())
+}
+
+#[test]
+fn each_interrupt_is_waited_for_on_a_strict_controller(rt: HostRuntime) -> Result<(), Fail> {
+    let way = Way::Port(Lines::all());
+    wait_at_each(rt.alloc(), Which::Mmc, way)?;
+    wait_at_each(rt.alloc(), Which::Sd, way)
 }
 
 #[test]
