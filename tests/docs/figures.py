@@ -81,7 +81,7 @@ def costs_that_differ(documents):
 
 def figures_without_a_mark(documents):
     """Each table of COSTS stands after a mark that names the command which made it, and each row is one that the command prints."""
-    marks = re.split(r"<!-- (bench/\w+)[^>]* -->\n", documents.texts[COSTS])
+    marks = re.split(r"<!-- ((?:bench|tests)/[\w/]+)[^>]* -->\n", documents.texts[COSTS])
     if re.search(r"^\|", marks[0], re.M):
         yield f"{COSTS}: a table without a mark that says which command made it"
     for command, text in zip(marks[1::2], marks[2::2]):
@@ -91,7 +91,7 @@ def figures_without_a_mark(documents):
         printed = re.sub(r"\{[^}]*\}", "{}", source(command)) if (TOP / command).exists() else ""
         if not printed:
             yield f"{COSTS}: there is no {command}"
-        named = source(command) + source("c/boards/boards.txt") if (TOP / command).exists() else ""
+        named = source(command) + source("c/boards/boards.txt") + source("tests/faults/faults.c") if (TOP / command).exists() else ""
         for row in tables[0].splitlines()[2:] if tables else []:
             name = row.split("|")[1].strip()
             if name not in named and not is_printed(name, printed):

@@ -1,7 +1,9 @@
 /* Test commands for U-Boot, which c/u-boot/build builds in by --also:
 
-    kelifandro_faults mmc|kelifandro KIND FROM TO STEP   one fault at each of these commands, in turn
-    kelifandro_measure mmc|kelifandro [pio]              how long opening, reading and writing take
+    kelifandro_faults mmc|kelifandro KIND FROM TO STEP          one fault at each of these commands, in turn
+    kelifandro_faults mmc|kelifandro KIND FROM TO STEP CHANCE   a run with each of these seeds, in which a fault falls at each command
+                                                                with this chance, in thousands
+    kelifandro_measure mmc|kelifandro [pio]                     how long opening, reading and writing take
 
    The faults fall below both stacks: the functions of the controller's driver are replaced by functions that call them. What the block
    devices are asked for, and answer, is noted in memory, which tests/u-boot/run shares: it judges. */
@@ -50,7 +52,9 @@ enum { PHASE_OPEN, PHASE_READ, PHASE_WRITE, PHASE_BACK, PHASE_AFTER };
 enum { ERROR = 1 << 19, LEFT_OVER_ERRORS = 3 << 22 };
 
 static struct {
-    int kind, at;               /* which fault, and at which command */
+    int kind, at;               /* which fault, and at which command; or with which seed */
+    int chance;                 /* in thousands; 0 where it falls once */
+    u64 random;
     int is_on, seen, has_fallen;
     int is_busy_next, is_error_next;
     int phase, index, in_phase; /* the step that is taken; which command was hit, and in which step */
@@ -150,6 +154,18 @@ static bool can_fall(const struct mmc_cmd *cmd, const struct mmc_data *data)
     }
 }
 
+static u32 draw(void)
+{
+    plan.random = plan.random * 6364136223846793005ull + 1442695040888963407ull;
+    return plan.random >> 33;
+}
+
+/* Whether the fault falls at this command, the nth one. */
+static bool falls(int n, const struct mmc_cmd *cmd, const struct mmc_data *data)
+{
+    return can_fall(cmd, data) && (plan.chance ? draw() % 1000 < plan.chance : n == plan.at);
+}
+
 static int send_with_fault(struct udevice *dev, struct mmc_cmd *cmd, struct mmc_data *data)
 {
     int error;
@@ -208,12 +224,12 @@ static int send_between(struct udevice *dev, struct mmc_cmd *cmd, struct mmc_dat
     plan.is_busy_next = 0;
     if (plan.is_error_next && has_status(cmd))
         return send_late_error(dev, cmd, data);
-    if (n != plan.at || !can_fall(cmd, data))
+    if (!falls(n, cmd, data))
         return below.send_cmd(dev, cmd, data);
     plan.index = cmd->cmdidx;
     plan.in_phase = plan.phase;
     plan.is_busy_next = plan.kind == BUSY;
-    plan.has_fallen = plan.kind != BUSY;
+    plan.has_fallen |= plan.kind != BUSY;
     return send_with_fault(dev, cmd, data);
 }
 
@@ -227,10 +243,10 @@ static int wait_between(struct udevice *dev, int state, int microseconds)
     return below.wait_dat0 ? below.wait_dat0(dev, state, microseconds) : -ENOSYS;
 }
 
-/* A note: what was asked, what came of it, and the sectors. */
+/* A note: what was asked, and whether after the steps; what came of it, and the sectors. */
 static void note(int is_write, lbaint_t start, lbaint_t count, const void *bytes, ulong done)
 {
-    notes[0] = is_write;
+    notes[0] = is_write | (plan.phase == PHASE_AFTER) << 1;
     notes[1] = start;
     notes[2] = count;
     notes[3] = done;
@@ -339,19 +355,22 @@ static void look_after(const char *stack, struct udevice *blk, int steps, int *n
         *again = !open_anew(stack, blk) && blk_get_ops(blk)->read(blk, LOOKED_AT, 8, BUFFER) == 8;
 }
 
-static void run_once(const char *stack, struct udevice *blk, int kind, int at)
+static void run_once(const char *stack, struct udevice *blk, int kind, int at, int chance)
 {
     int next = 1, again = 1, steps;
     ulong begin = get_timer(0);
     memset(&plan, 0, sizeof(plan));
     plan.kind = kind;
     plan.at = at;
+    plan.chance = chance;
+    plan.random = (((u64)at * 16 + kind) * 1024 + chance) * 0x9e3779b97f4a7c15ull;
     notes = (u64 *)NOTES;
     notes[0] = ~0ull;
     memset(READ_TO, 0x5a, 0x10000);
     memset(BACK_TO, 0x5a, 0x10000);
     plan.is_on = 1;
     steps = take_steps(stack, blk);
+    plan.is_on = !chance;
     if (steps < 4)
         look_after(stack, blk, steps, &next, &again);
     plan.is_on = 0;
@@ -365,7 +384,7 @@ static int do_faults(struct cmd_tbl *table, int flag, int argc, char *const argv
     struct udevice *blk, *controller;
     void *ops, *blk_ops;
     int at, i;
-    if (argc != 6)
+    if (argc < 6)
         return CMD_RET_USAGE;
     blk = card_of(argv[1]);
     if (!blk)
@@ -377,8 +396,8 @@ static int do_faults(struct cmd_tbl *table, int flag, int argc, char *const argv
     for (i = 0; i < LENGTH_WRITTEN; i++)
         WRITE_FROM[i] = (u8)(i * 7 + i / 251 + i / 512);
     for (at = dectoul(argv[3], NULL); at < dectoul(argv[4], NULL); at += dectoul(argv[5], NULL)) {
-        run_once(argv[1], blk, dectoul(argv[2], NULL), at);
-        if (getchar() == 'q' || (!plan.has_fallen && at >= plan.seen))
+        run_once(argv[1], blk, dectoul(argv[2], NULL), at, argc > 6 ? dectoul(argv[6], NULL) : 0);
+        if (getchar() == 'q' || (argc == 6 && !plan.has_fallen && at >= plan.seen))
             break;
     }
     replace_ops(controller, ops);
@@ -421,5 +440,5 @@ static int do_measure(struct cmd_tbl *table, int flag, int argc, char *const arg
     return 0;
 }
 
-U_BOOT_CMD(kelifandro_faults, 6, 0, do_faults, "faults below a stack", "mmc|kelifandro KIND FROM TO STEP");
+U_BOOT_CMD(kelifandro_faults, 7, 0, do_faults, "faults below a stack", "mmc|kelifandro KIND FROM TO STEP [CHANCE]");
 U_BOOT_CMD(kelifandro_measure, 3, 0, do_measure, "times of a stack", "mmc|kelifandro [pio]");

@@ -1,4 +1,5 @@
-"""One fault at each command in turn, below the library and below U-Boot's own stack: what became of the card, by a model of its sectors."""
+"""One fault at each command in turn, or faults by chance, below the library and below U-Boot's own stack: what became of the card, by a
+model of its sectors."""
 import re
 import struct
 from collections import Counter
@@ -36,7 +37,7 @@ class Model:
         self.now = bytearray(pristine)
         self.maybe = {}
         self.wrong = 0
-        self.failed = 0
+        self.calls = self.done = self.failed = 0
 
     def sector(self, n):
         return bytes(self.now[n * SECTOR:(n + 1) * SECTOR])
@@ -52,9 +53,12 @@ class Model:
             else:
                 self.maybe.setdefault(start + i, set()).add(content)
 
-    def take(self, is_write, start, count, done, content):
+    def take(self, kind, start, count, done, content):
+        is_write, is_after = kind & 1, kind >> 1
         contents = [content[i:i + SECTOR] for i in range(0, len(content), SECTOR)]
         self.failed += done != count
+        self.calls += not is_after
+        self.done += not is_after and done == count
         if is_write:
             self.take_write(start, min(done, count), contents)
         else:
@@ -69,10 +73,10 @@ class Model:
 def notes_of(machine):
     at = NOTES
     while True:
-        is_write, start, count, done = struct.unpack("<4Q", machine.bytes_at(at, 32))
-        if is_write == END:
+        kind, start, count, done = struct.unpack("<4Q", machine.bytes_at(at, 32))
+        if kind == END:
             return
-        yield is_write, start, count, done, machine.bytes_at(at + 32, count * SECTOR)
+        yield kind, start, count, done, machine.bytes_at(at + 32, count * SECTOR)
         at += 32 + count * SECTOR
 
 
@@ -82,11 +86,16 @@ def files_are_right(machine, run, read):
             (run.steps < 4 or machine.bytes_at(BACK_TO, LENGTH_WRITTEN) == WRITTEN))
 
 
-def judge(machine, run, pristine, image, read):
+def followed(machine, pristine, image):
+    """The model after all that was asked for."""
     model = Model(pristine)
     for note in notes_of(machine):
         model.take(*note)
     model.compare(image)
+    return model
+
+
+def judge(machine, run, model, read):
     if model.wrong or (model.failed == 0 and not files_are_right(machine, run, read)):
         return "wrong, said good"
     if run.steps == 4:
@@ -117,16 +126,19 @@ class Sweep:
     def take(self, machine, run):
         image = self.image.read_bytes()
         if run.fallen:
-            outcome = judge(machine, run, self.pristine, image, self.read)
+            outcome = judge(machine, run, followed(machine, self.pristine, image), self.read)
             self.outcomes[outcome] += 1
             self.where.setdefault(outcome, []).append((run.at, run.index, run.phase))
             self.longest = max(self.longest, run.ms)
         self.put_back(image)
 
+    def words(self, first):
+        return "kelifandro_faults %s %d %d %d %d" % (self.stack, self.kind, first, self.last, self.step)
+
     def follow(self, machine, first):
         """Takes the runs that this machine makes. Answers where to go on with another one, or nothing."""
         machine.say("kelifandro open mmc")
-        machine.type("kelifandro_faults %s %d %d %d %d\r" % (self.stack, self.kind, first, self.last, self.step))
+        machine.type(self.words(first) + "\r")
         while True:
             try:
                 machine.until("\n@ ".encode(), 120)
@@ -147,6 +159,44 @@ class Sweep:
             with Machine(self.program, self.image, str(self.folder), FAST) as machine:
                 first = self.follow(machine, first)
         return self
+
+
+class Chances(Sweep):
+    """So many runs of a stack, a kind of fault and a chance in thousands: each command meets the fault with it, until the files are
+    written and read, or a step has failed."""
+
+    def __init__(self, program, folder, stack, kind, chance, runs):
+        super().__init__(program, folder, stack, kind, last=runs)
+        self.chance, self.opened, self.calls, self.done = chance, 0, 0, 0
+
+    def words(self, first):
+        return super().words(first) + " %d" % self.chance
+
+    def take(self, machine, run):
+        image = self.image.read_bytes()
+        model = followed(machine, self.pristine, image)
+        self.outcomes[judge(machine, run, model, self.read)] += 1
+        self.opened += run.steps > 0
+        self.calls += model.calls
+        self.done += model.done
+        self.put_back(image)
+
+
+def table_of_chances(made):
+    """For each kind and stack, by chance: how many runs opened the card, how many of their requests were done, how many runs were right."""
+    chances = sorted({one.chance for one in made})
+    heads = ["%s: %d %%" % (what, chance // 10) if chance == chances[0] else "%d %%" % (chance // 10)
+             for what in ("opened", "requests done", "right") for chance in chances]
+    lines = ["| Fault | Stack | %s | **wrong, said good** |" % " | ".join(heads), "|---|---|%s---|" % ("---|" * len(heads))]
+    for kind, name in FAULTS.items():
+        for stack, of in STACKS.items():
+            row = sorted((one for one in made if (one.kind, one.stack) == (kind, stack)), key=lambda one: one.chance)
+            cells = ["%d / %d" % (one.opened, sum(one.outcomes.values())) for one in row]
+            cells += ["%d / %d" % (one.done, one.calls) for one in row]
+            cells += ["%d / %d" % (one.outcomes["right"], sum(one.outcomes.values())) for one in row]
+            if row:
+                lines.append("| %s | %s | %s | %d |" % (name, of, " | ".join(cells), sum(one.outcomes["wrong, said good"] for one in row)))
+    return "\n".join(lines)
 
 
 def table(sweeps):
