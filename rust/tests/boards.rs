@@ -133,3 +133,66 @@ fn capabilities_of_the_board() {
         Err(Error::NoBaseClock)
     );
 }
+
+/// A controller whose Interrupt Status shows nothing of a command until it is waited for.
+struct Asleep {
+    controller: MemoryController,
+    is_awake: bool,
+    waits: u32,
+}
+
+const COMMAND: u32 = 0x0c;
+const INTERRUPT_STATUS: u32 = 0x30;
+const STATUS_ENABLE: u32 = 0x34;
+
+/// Card Insertion and Card Removal.
+const OF_THE_SLOT: u32 = 0xc0;
+
+impl Registers for Asleep {
+    fn read(&mut self, offset: u32, size: Size) -> u32 {
+        if offset == INTERRUPT_STATUS && !self.is_awake {
+            return 0;
+        }
+        self.controller.read(offset, size)
+    }
+
+    fn write(&mut self, offset: u32, size: Size, value: u32) {
+        self.is_awake &= offset != COMMAND;
+        self.controller.write(offset, size, value);
+    }
+
+    fn pause(&mut self, _: u32) {}
+
+    fn wait(&mut self, interrupts: u32, microseconds: u32) {
+        assert_eq!((interrupts, microseconds), (0x000f_0001, 10_000));
+        self.is_awake = true;
+        self.waits += 1;
+    }
+
+    fn board(&self) -> Board {
+        Board::new()
+            .with_interrupts()
+            .with_kept_interrupts(OF_THE_SLOT)
+    }
+}
+
+#[test]
+fn interrupts_are_waited_for() {
+    let data = sectors(3, 2);
+    let mut back = vec![[0; 512]; 3];
+    let mut card = SdCard::over_registers(Asleep {
+        controller: MemoryController::new(MemoryCard::sd()),
+        is_awake: false,
+        waits: 0,
+    });
+    card.open().expect("open");
+    let before = card.way().0.waits;
+    card.write(Partition::User, 7, &data).expect("write");
+    card.read(Partition::User, 7, &mut back).expect("read");
+    assert_eq!(back, data);
+    let registers = &mut card.way_mut().0;
+    assert!(registers.waits > before, "once for each command");
+    assert_eq!(registers.controller.misuses(), 0);
+    let shown = registers.read(STATUS_ENABLE, Size::Word);
+    assert_eq!(shown & OF_THE_SLOT, OF_THE_SLOT);
+}

@@ -1,7 +1,7 @@
 // The card's busy signal: it holds DAT0 low.
-ghost use Rattle.std.specs.Prelude.{◌≡◌, ◌≤◌, true};
+ghost use Rattle.std.specs.Prelude.{◌≡◌, true};
 ghost use Rattle.mmc_sdhci.specs.Beside.{HasWaited};
-ghost use Rattle.mmc_sdhci.specs.Busy.{IsPolled, is_low};
+ghost use Rattle.mmc_sdhci.specs.Busy.{IsPolled, is_low, time_between};
 ghost use Rattle.mmc_sdhci.specs.Accesses.{IsAtRest, IsStill, Stays};
 
 use crate::offsets::{DATA_LEVELS, PRESENT};
@@ -12,11 +12,10 @@ const BETWEEN_LOOKS: u32 = 10;
 
 const LONGEST_PAUSE: u32 = 1000;
 
-// For how many microseconds nobody looks once it has been waited for so many, where somebody else has use for the time: a quarter of
-// them, so that the wait is a quarter longer at most.
+// For how many microseconds nobody looks once it has been waited for so many, where somebody else has use for the time: the wait is a
+// quarter longer at most by that.
 fn between(waited: u32) -> u32
-    ensures some { 10 ≤ result }
-    ensures few { result ≤ 1000 }
+    ensures { result ≡ time_between waited }
 {
     (waited / 4).clamp(BETWEEN_LOOKS, LONGEST_PAUSE)
 }
