@@ -14,7 +14,7 @@
 #include <sys/mman.h>
 #include "../../c/examples/controller.h"
 
-enum { CALLS = 12, PAGE = 4096, ROOM = 1024 * 1024, FAULTS_OF_A_FAILURE = 4 };
+enum { CALLS = 12, PAGE = 4096, ROOM = 1024 * 1024, FAULTS_OF_A_FAILURE = 4, ROUNDS_OF_AN_OPENING = 24 };
 enum way { BY_HOST, BY_TRANSFERS, BY_TRANSFERS_ALONE, BY_REGISTERS, BY_ONE_BLOCK, BY_PORT, BY_WORDS, BY_DMA };
 
 static const uint8_t *input;
@@ -444,7 +444,7 @@ static void open_card(void)
         before = card, controller.misuses = 0;
     is_wild = 0;
     check(is_unchanged(), "opening changes nothing", result);
-    check(is_open || faults - faults_then >= 3, "it takes three faults not to be opened", result);
+    check(is_open || faults - faults_then >= ROUNDS_OF_AN_OPENING, "it takes a fault in each round not to be opened", result);
     check(!is_open || kelifandro_sectors(sd, KELIFANDRO_USER) == USER_SECTORS, "its size", result);
 }
 

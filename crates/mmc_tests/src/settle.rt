@@ -71,6 +71,9 @@ fn settled_patiently_by(alloc: Global, said: &[Said]) -> Result<(bool, bool, usi
     Ok((settled.is_ok(), was_reset, bus.len()))
 }
 
+// So many rounds of a reset that nothing answers.
+const RESET: usize = 8 * 5;
+
 #[test]
 fn tries_once_more_where_an_answer_is_missing(rt: HostRuntime) -> Result<(), Fail> {
     let data = Said::Response(13, 0xb00);
@@ -96,13 +99,17 @@ fn tries_once_more_where_an_answer_is_missing(rt: HostRuntime) -> Result<(), Fai
             &[tran, length, tran, Said::Silent, tran, length, tran, tran][..],
             (true, false, 4 + 4),
         ),
-        // Twice is the last time. No CMD16, the wrong status, and a card that stays busy lead to the reset at once.
-        (&[][..], (false, true, 2 + 5)),
-        (&[data, Said::Silent, data][..], (false, true, 4 + 5)),
-        (&[tran][..], (false, true, 2 + 5)),
-        (&[Said::Response(13, 0x700)][..], (false, true, 1 + 5)),
-        (&[tran, length, tran, programs][..], (false, true, 4 + 5)),
-        (&busy[..], (false, true, 17 + 5)),
+        // Twice is the last time. No CMD16, the wrong status, and a card that stays busy lead to the reset at once,
+        // of which nothing is answered.
+        (&[][..], (false, true, 2 + RESET)),
+        (&[data, Said::Silent, data][..], (false, true, 4 + RESET)),
+        (&[tran][..], (false, true, 2 + RESET)),
+        (&[Said::Response(13, 0x700)][..], (false, true, 1 + RESET)),
+        (
+            &[tran, length, tran, programs][..],
+            (false, true, 4 + RESET),
+        ),
+        (&busy[..], (false, true, 17 + RESET)),
     ] {
         assert_eq!(rt; settled_patiently_by(rt.alloc(), said)?, settling);
     }
