@@ -9,6 +9,7 @@ ghost use Rattle.mmc_switch.specs.Place.{IsInitialized};
 use crate::initialization::{EXCHANGES_OF_AN_INITIALIZATION, InitializationFault, initialize};
 use crate::session::Session;
 use mmc_bus::Bus;
+use mmc_identify::IdentFault;
 
 /// The most rounds of an opening.
 pub const ROUNDS_OF_AN_OPENING: u64 = 3;
@@ -31,11 +32,8 @@ pub fn initialize_in<B: Bus>(bus: &mut B, rounds: u64) -> Result<Session, Initia
     ensures refused { (B.view bus.new).is_kept ≡ true → InProfile (B.view bus.old).card.made → IsErr result
         → (B.view bus.old).faults + rounds ≤ (B.view bus.new).faults }
 {
-    let mut failed = match initialize(bus) {
-        Ok(session) => return Ok(session),
-        Err(fault) => fault,
-    };
-    for _rounds in 1..rounds {
+    let mut failed = InitializationFault::Identification(IdentFault::NoAnswer);
+    for _rounds in 0..rounds {
         match initialize(bus) {
             Ok(session) => return Ok(session),
             Err(fault) => failed = fault,
