@@ -266,6 +266,11 @@ static inline uint32_t umin32(uint32_t a, uint32_t b)
     return a < b ? a : b;
 }
 
+static inline uint32_t umax32(uint32_t a, uint32_t b)
+{
+    return a > b ? a : b;
+}
+
 static inline uint32_t usub_sat32(uint32_t a, uint32_t b)
 {
     return a < b ? (uint32_t)0u : (uint32_t)(a - b);
@@ -438,7 +443,7 @@ static uint32_t CRegistersRegisters_read32(uint8_t *a0, uint8_t a1);
 static uint8_t StoryRegistersRegisters_read8(uint8_t *a0, uint8_t a1);
 static uint8_t CRegisters_read_in_word(uint8_t *a0, uint8_t a1);
 static void clock_set_clock(uint8_t *a0, uint32_t a1, uint8_t a2, uint32_t a3);
-static void initialization_initialize(uint8_t *a0, uint8_t *a1);
+static void opening_initialize_in(uint8_t *a0, uint8_t *a1, uint64_t a2);
 static void identification_identify(uint8_t *a0, uint8_t *a1);
 static void shared_go_idle(uint8_t *a0);
 static void frame_framed(uint8_t *a0, uint8_t a1, uint32_t a2);
@@ -451,6 +456,8 @@ static void WayHost_set_ios(uint8_t *a0, uint8_t *a1);
 static void records_heard_by(uint8_t *a0, uint8_t a1, uint8_t *a2);
 static void SdhciHost_send(uint8_t *a0, uint8_t *a1, uint8_t *a2);
 static void command_send(uint8_t *a0, uint8_t *a1, uint8_t *a2, uint8_t *a3, uint8_t a4);
+static uint32_t command_look(uint8_t *a0, uint32_t a1);
+static void StoryRegistersRegisters_wait(uint8_t *a0, uint32_t a1, uint32_t a2);
 static void HostState_sent(uint8_t *a0, uint8_t *a1, uint8_t *a2, bool a3);
 static void replies_spelled(uint8_t *a0, uint8_t *a1, uint8_t *a2);
 static void Wire_note(uint8_t *a0, uint8_t *a1);
@@ -468,6 +475,9 @@ static uint8_t sd_announce_2(uint8_t *a0, uint16_t a1);
 static uint8_t data_receive(uint8_t *a0, uint8_t *a1, uint64_t a2);
 static uint8_t SdhciHost_read_block(uint8_t *a0, uint8_t *a1, uint64_t a2);
 static void watching_watch(uint8_t *a0, uint8_t *a1, uint8_t a2, uint8_t a3);
+static void watching_look_often(uint8_t *a0, uint8_t *a1, uint8_t a2, uint8_t a3, uint32_t a4);
+static struct of_i8_i32 watching_look(uint8_t *a0, uint8_t a1);
+static bool Sought_is_over(uint8_t a0, uint8_t a1, uint8_t a2, uint32_t a3);
 static void HostState_block_passed(uint8_t *a0, uint8_t *a1, bool a2);
 static void sd_switch_func(uint8_t *a0, uint8_t *a1, uint32_t a2);
 static struct of_i8_i8 status_confirm(uint8_t *a0, uint8_t a1, uint16_t a2);
@@ -489,6 +499,7 @@ static void Info_used_as(uint8_t *a0, uint8_t *a1, uint8_t *a2);
 static void Stream_send_with(uint8_t *a0, uint8_t *a1, uint8_t a2, uint8_t *a3, uint64_t a4);
 static struct of_i8_i64 CRegisters_lend(uint8_t *a0, bool a1, uint64_t a2);
 static void Sdhci_move_blocks(uint8_t *a0, uint8_t *a1, uint8_t *a2, uint64_t a3, uint64_t a4);
+static struct of_i8_i32 moving_look(uint8_t *a0, uint32_t a1);
 static void Data_less_by(uint8_t *a0, uint8_t *a1, uint64_t a2);
 static struct of_i8_i8 Run_stand(uint8_t *a0, uint8_t *a1);
 static void steps_step(uint8_t *a0, uint8_t *a1, uint8_t *a2, uint8_t *a3);
@@ -505,7 +516,7 @@ static void calls_open_card(uint8_t *a0, uint8_t *a1, uint8_t *a2)
     KELIFANDRO_ROOM uint8_t r0[208];
     u128 sink;
     u128 r31_sink;
-    if (!((uint8_t)((a2[1] == 0u) ? a1[17] : a1[18]) == 0u)) {
+    if (!((uint8_t)((a2[1] == 0u) ? a1[22] : a1[23]) == 0u)) {
         sink = u128_of(0u, 0u);
         r31_sink = u128_of(0u, 0u);
         goto common_ret;
@@ -983,7 +994,7 @@ return_5: {
 /* kelifandro::hosts::switch_off::<#fb070baa9c134c3e> */
 static void hosts_switch_off(uint8_t *a0)
 {
-    KELIFANDRO_ROOM uint8_t r5[36];
+    KELIFANDRO_ROOM uint8_t r5[40];
     given_given_by(r5, a0);
     if (*r5 == 0u) {
         CFunctions_set_power(r5 + 4, false);
@@ -999,37 +1010,41 @@ join_4: {
 static void given_given_by(uint8_t *a0, uint8_t *a1)
 {
     uint32_t sink;
-    uint64_t r0_44_0_0_insert_insert24_sink;
+    uint64_t r0_45_0_0_insert_insert28_sink;
     bool sink_in;
-    uint32_t r31 = load32_aligned(a1);
-    if (a1[10] == 0u) {
-        uint8_t r42 = a1[11];
-        uint64_t r0_44_5_0_insert_insert = (((a1[12] == 0u) ? 0u : UINT64_C(0x10000000000)) | (uint64_t)r31) | ((r42 == 8u) ? UINT64_C(0x200000000) : ((r42 == 4u) ? UINT64_C(0x100000000) : 0u));
+    uint32_t r34 = load32_aligned(a1);
+    if (a1[14] == 0u) {
+        uint8_t r45 = a1[15];
+        uint64_t r0_45_5_0_insert_insert = (((a1[16] == 0u) ? 0u : UINT64_C(0x10000000000)) | (uint64_t)r34) | ((r45 == 8u) ? UINT64_C(0x200000000) : ((r45 == 4u) ? UINT64_C(0x100000000) : 0u));
         sink = 0u;
-        r0_44_0_0_insert_insert24_sink = (r0_44_5_0_insert_insert | ((a1[16] == 0u) ? 0u : UINT64_C(0x1000000000000))) | ((a1[17] == 0u) ? UINT64_C(0x100000000000000) : 0u);
-        sink_in = a1[18] == 0u;
+        r0_45_0_0_insert_insert28_sink = (r0_45_5_0_insert_insert | ((a1[21] == 0u) ? 0u : UINT64_C(0x1000000000000))) | ((a1[22] == 0u) ? UINT64_C(0x100000000000000) : 0u);
+        sink_in = a1[23] == 0u;
         goto common_ret;
     }
-    uint8_t r73 = a1[13];
-    uint32_t r77 = load32_aligned(a1 + 4);
-    uint8_t r93 = a1[14];
-    uint8_t r98 = a1[15];
-    uint16_t r103 = load16_aligned(a1 + 8);
-    uint8_t r6_43 = a1[17];
-    uint8_t r11_47 = a1[18];
-    store32(a0 + 16, r77);
-    a0[20] = (uint8_t)(r93 != 0u);
-    a0[21] = (uint8_t)(r98 != 0u);
-    store16(a0 + 22, r103);
-    a0[24] = (uint8_t)(r6_43 == 0u);
-    a0[25] = (uint8_t)(r11_47 == 0u);
-    store16(a0 + 26, 0u);
+    uint8_t r76 = a1[17];
+    uint32_t r80 = load32_aligned(a1 + 4);
+    uint8_t r96 = a1[18];
+    uint8_t r101 = a1[19];
+    uint8_t r106 = a1[20];
+    uint32_t r111 = load32_aligned(a1 + 8);
+    uint16_t r113 = load16_aligned(a1 + 12);
+    uint8_t r6_47 = a1[22];
+    uint8_t r11_51 = a1[23];
+    store32(a0 + 16, r80);
+    a0[20] = (uint8_t)(r96 != 0u);
+    a0[21] = (uint8_t)(r101 != 0u);
+    a0[22] = (uint8_t)(r106 != 0u);
+    store32(a0 + 24, r111);
+    store16(a0 + 28, r113);
+    a0[30] = (uint8_t)(r6_47 == 0u);
+    a0[31] = (uint8_t)(r11_51 == 0u);
+    store16(a0 + 32, 0u);
     sink = 1u;
-    r0_44_0_0_insert_insert24_sink = ((r73 == 0u) ? 0u : UINT64_C(0x100000000)) | (uint64_t)r31;
-    sink_in = r77 != 0u;
+    r0_45_0_0_insert_insert28_sink = ((r76 == 0u) ? 0u : UINT64_C(0x100000000)) | (uint64_t)r34;
+    sink_in = r80 != 0u;
 common_ret: {
     store32(a0, sink);
-    store64(a0 + 4, r0_44_0_0_insert_insert24_sink);
+    store64(a0 + 4, r0_45_0_0_insert_insert28_sink);
     store32(a0 + 12, (uint32_t)sink_in);
     return;
 }
@@ -1160,7 +1175,7 @@ static void Stream_write_register(uint8_t *a0, uint8_t a1, uint8_t a2, uint32_t 
 /* kelifandro::hosts::switch_on */
 static void hosts_switch_on(uint8_t *a0)
 {
-    KELIFANDRO_ROOM uint8_t r2[36];
+    KELIFANDRO_ROOM uint8_t r2[40];
     given_given_by(r2, a0);
     if (*r2 != 0u) {
         goto join_4;
@@ -1177,29 +1192,20 @@ static uint32_t opening_open_once(uint8_t *a0, uint8_t *a1, uint8_t *a2)
     KELIFANDRO_ROOM uint8_t room[208];
     uint8_t *const r4 = room;
     uint8_t *const r2_2 = room;
-    uint8_t *const r0 = room;
-    uint8_t *const r3_2 = room;
-    uint8_t *const r5 = room;
-    uint8_t *const r9 = room;
+    uint8_t *const r4_3 = room;
+    uint8_t *const r7_4 = room;
     uint8_t *const r11 = room;
     uint8_t *const r8_41 = room;
     uint8_t *const r3 = room + 40;
     uint8_t *const r25_6_8_0 = room + 40;
     uint8_t *const r16 = room + 56;
-    uint8_t *const r25_6_4 = room + 56;
-    uint8_t *const r1_2 = room + 160;
-    uint8_t *const r1_7 = room + 176;
-    uint8_t *const r4_8_4 = room + 176;
-    uint8_t *const r4_8_9 = room + 192;
-    KELIFANDRO_ROOM uint8_t r2[184];
-    KELIFANDRO_ROOM uint8_t room_2[104];
-    uint8_t *const r1_4 = room_2;
-    uint8_t *const r7_3 = room_2;
-    KELIFANDRO_ROOM uint8_t r4_8_6[97];
+    uint8_t *const r25_6_4 = room + 64;
+    KELIFANDRO_ROOM uint8_t r2[192];
+    KELIFANDRO_ROOM uint8_t r9[160];
     uint8_t r1_3_0;
     uint32_t r1_0_0;
     uint8_t r1_2_0;
-    uint8_t r3_919_0;
+    uint8_t r3_917_0;
     uint8_t r3_10_0;
     uint16_t r3_11_0;
     bool r7;
@@ -1220,32 +1226,14 @@ static uint32_t opening_open_once(uint8_t *a0, uint8_t *a1, uint8_t *a2)
     uint8_t r12_6_9_22_0;
     uint32_t r12_6_9_24_0;
     uint32_t r12_3_2_0;
-    uint8_t r4_12_03157;
-    uint8_t r4_16_03255;
-    uint8_t r4_20_03353;
-    uint8_t r4_8_0_03450;
-    u128 r4_8_5_03547;
-    bool r4_8_8_038_off046;
-    uint8_t r4_12_03156;
-    uint8_t r4_16_03254;
-    uint8_t r4_20_03352;
-    uint8_t r4_8_0_03451;
-    u128 r4_8_5_03548;
-    bool r4_8_8_038_off045;
+    uint8_t r1_0_0_2;
+    u128 r1_3_0_2;
+    uint8_t r1_6_0;
+    uint8_t v10;
+    uint8_t v11;
+    uint8_t v12;
     bool r2_0_off0;
-    uint8_t r4_12_031565980;
-    uint8_t r4_16_032546179;
-    uint8_t r4_20_033526378;
-    uint8_t r4_8_0_034516477;
-    u128 r4_8_5_035486676;
-    bool r2_0_off0_6875;
     bool r5_0_shrunk;
-    bool r2_0_off0_67;
-    uint8_t r4_8_0_0345165;
-    uint8_t r4_20_0335262;
-    uint8_t r4_16_0325460;
-    uint8_t r4_12_0315658;
-    u128 r4_8_5_03549;
     bool r6_0_off0;
     uint32_t v;
     uint32_t r6_0;
@@ -1277,17 +1265,19 @@ static uint32_t opening_open_once(uint8_t *a0, uint8_t *a1, uint8_t *a2)
         r12_3_2_0 = 0u;
         goto arm_1;
     }
-    r3_919_0 = r11[16];
+    r3_917_0 = r11[16];
     r3_10_0 = r11[17];
     r3_11_0 = load16_aligned(r11 + 18);
-    r7 = a0[11] == 1u;
+    uint32_t r3_1218_0 = load32_aligned(r11 + 24);
+    r7 = a0[15] == 1u;
     command_lose_all(r11 + 4);
     StoryRegistersRegisters_write8(r11 + 4, 41u, 0u);
     Stream_pause(r11 + 4, 10000u);
+    uint32_t r5 = r3_1218_0 & 192u;
     StoryRegistersRegisters_write8(r11 + 4, 47u, 1u);
     settling_settle_reset(r11 + 4);
-    Stream_write_register(r11 + 4, 4u, 52u, UINT32_C(0x7f0033));
-    Stream_write_register(r11 + 4, 4u, 56u, 0u);
+    Stream_write_register(r11 + 4, 4u, 52u, r5 | UINT32_C(0x7f0033));
+    Stream_write_register(r11 + 4, 4u, 56u, r5);
     r6 = CRegistersRegisters_read32(r11 + 4, 64u);
     r40 = StoryRegistersRegisters_read8(r11 + 4, 254u);
     r8 = (uint32_t)(r6 >> 8u) & 255u;
@@ -1324,12 +1314,12 @@ join_5: {
     uint8_t spec_select = (uint8_t)(r7 ? 0u : (uint8_t)(((r6 & UINT32_C(0x40000)) == 0u) ? 1u : 2u));
     uint8_t r7_0_0 = (uint8_t)((uint8_t)(r6 >> 21u) & 1u);
     memcpy(r25_6_4, r11 + 10, 6);
-    memcpy(r25_6_8_0, r11 + 20, 16);
+    memcpy(r25_6_8_0, r11 + 20, 20);
     r0_0_0_pn_speculated = spec_select;
     r0_2_0_pn_speculated = r7_0_0;
     r12_6_8_0 = r3_11_0;
     r12_6_7_0 = r3_10_0;
-    r12_6_6_0 = r3_919_0;
+    r12_6_6_0 = r3_917_0;
     r12_6_9_18_0 = spec_select;
     r12_6_9_19_0 = r7_0_0;
     r12_6_9_21_0 = r3_0;
@@ -1354,209 +1344,83 @@ arm_1: {
     r2[16] = r12_6_6_0;
     r2[17] = r12_6_7_0;
     store16_aligned(r2 + 18, r12_6_8_0);
-    memcpy(r2 + 20, r25_6_8_0, 16);
-    r2[36] = 0u;
-    r2[37] = 0u;
-    r2[38] = 1u;
-    r2[39] = 1u;
+    memcpy(r2 + 20, r25_6_8_0, 20);
     r2[40] = 0u;
-    store16_aligned(r2 + 42, 0u);
-    store16_aligned(r2 + 44, 0u);
-    store32_aligned(r2 + 52, 0u);
-    store32_aligned(r2 + 60, 0u);
+    r2[41] = 0u;
+    r2[42] = 1u;
+    r2[43] = 1u;
+    r2[44] = 0u;
+    store16_aligned(r2 + 46, 0u);
+    store16_aligned(r2 + 48, 0u);
+    store32_aligned(r2 + 56, 0u);
     store32_aligned(r2 + 64, 0u);
     store32_aligned(r2 + 68, 0u);
-    r2[72] = 1u;
-    r2[73] = r12_6_9_18_0;
-    r2[74] = r12_6_9_19_0;
-    store32_aligned(r2 + 76, r12_6_9_21_0);
-    r2[80] = r12_6_9_22_0;
-    store32_aligned(r2 + 84, r12_6_9_24_0);
-    r2[88] = 0u;
-    r2[89] = 0u;
-    r2[90] = r0_0_0_pn_speculated;
-    r2[91] = r0_2_0_pn_speculated;
-    store64_aligned(r2 + 96, 0u);
-    store64_aligned(r2 + 136, 0u);
-    r2[144] = 0u;
-    r2[145] = 0u;
-    r2[146] = 1u;
-    r2[147] = 1u;
-    r2[148] = 0u;
-    store16_aligned(r2 + 150, 0u);
-    store16_aligned(r2 + 152, 0u);
-    store32_aligned(r2 + 160, 0u);
-    memcpy(r2 + 164, r8_41, 17);
+    store32_aligned(r2 + 72, 0u);
+    r2[76] = 1u;
+    r2[77] = r12_6_9_18_0;
+    r2[78] = r12_6_9_19_0;
+    store32_aligned(r2 + 80, r12_6_9_21_0);
+    r2[84] = r12_6_9_22_0;
+    store32_aligned(r2 + 88, r12_6_9_24_0);
+    r2[96] = 0u;
+    r2[97] = 0u;
+    r2[98] = r0_0_0_pn_speculated;
+    r2[99] = r0_2_0_pn_speculated;
+    store64_aligned(r2 + 104, 0u);
+    store64_aligned(r2 + 144, 0u);
+    r2[152] = 0u;
+    r2[153] = 0u;
+    r2[154] = 1u;
+    r2[155] = 1u;
+    r2[156] = 0u;
+    store16_aligned(r2 + 158, 0u);
+    store16_aligned(r2 + 160, 0u);
+    store32_aligned(r2 + 168, 0u);
+    memcpy(r2 + 172, r8_41, 17);
     *a1 = 0u;
     memset(a2, 0u, 64);
-    initialization_initialize(r3_2, r2);
-    if (*r3_2 == 0u) {
-        uint8_t r1_2_144 = r3_2[160];
-        uint8_t r1_4_145 = r3_2[161];
-        uint8_t r1_6_146 = r3_2[162];
-        uint8_t r4_8_0_0_12 = r3_2[16];
-        memcpy(r4_8_4, r3_2 + 17, 15);
-        u128 r4_8_5_0_14 = load128_aligned(r3_2 + 32);
-        memcpy(r4_8_6, r3_2 + 48, 97);
-        uint8_t r4_8_7_0_16 = r3_2[145];
-        uint8_t r4_8_8_0_18 = r3_2[146];
-        memcpy(r4_8_9, r3_2 + 147, 13);
-        bool extract_t44 = (r4_8_8_0_18 & 1u) != 0;
-        memcpy(r1_2, r4_8_4, 15);
-        memcpy(r1_4, r4_8_6, 97);
-        memcpy(r1_7, r4_8_9, 13);
-        if ((r4_8_7_0_16 & 1u) != 0) {
-            r4_12_03157 = r1_2_144;
-            r4_16_03255 = r1_4_145;
-            r4_20_03353 = r1_6_146;
-            r4_8_0_03450 = r4_8_0_0_12;
-            r4_8_5_03547 = r4_8_5_0_14;
-            r4_8_8_038_off046 = extract_t44;
-            goto then_1;
+    opening_initialize_in(r4_3, r2, 24u);
+    if (*r4_3 != 0u) {
+        uint8_t r2_0_0 = r4_3[1];
+        uint8_t r2_2_1 = r4_3[2];
+        if (r2_0_0 != 0u) {
+            r6_0 = (r2_2_1 == 0u) ? UINT32_C(0xffffffec) : UINT32_C(0xffffffeb);
+            goto kelifandro_opening_open_over_1bed76fd314cf36e_exit;
         }
-        r4_12_03156 = r1_2_144;
-        r4_16_03254 = r1_4_145;
-        r4_20_03352 = r1_6_146;
-        r4_8_0_03451 = r4_8_0_0_12;
-        r4_8_5_03548 = r4_8_5_0_14;
-        r4_8_8_038_off045 = extract_t44;
-        r2_0_off0 = false;
-        goto join_3;
-    }
-    initialization_initialize(r5, r2);
-    if (*r5 == 0u) {
-        uint8_t r2_2_144 = r5[160];
-        uint8_t r2_4_145 = r5[161];
-        uint8_t r2_6_146 = r5[162];
-        uint8_t r4_8_0_0_11 = r5[16];
-        memcpy(r4_8_4, r5 + 17, 15);
-        u128 r4_8_5_0_13 = load128_aligned(r5 + 32);
-        memcpy(r4_8_6, r5 + 48, 97);
-        uint8_t r4_8_7_0_15 = r5[145];
-        uint8_t r4_8_8_0_17 = r5[146];
-        memcpy(r4_8_9, r5 + 147, 13);
-        bool extract_t43 = (r4_8_8_0_17 & 1u) != 0;
-        memcpy(r1_2, r4_8_4, 15);
-        memcpy(r1_4, r4_8_6, 97);
-        memcpy(r1_7, r4_8_9, 13);
-        if ((r4_8_7_0_15 & 1u) != 0) {
-            r4_12_03157 = r2_2_144;
-            r4_16_03255 = r2_4_145;
-            r4_20_03353 = r2_6_146;
-            r4_8_0_03450 = r4_8_0_0_11;
-            r4_8_5_03547 = r4_8_5_0_13;
-            r4_8_8_038_off046 = extract_t43;
-            goto then_1;
-        }
-        r4_12_03156 = r2_2_144;
-        r4_16_03254 = r2_4_145;
-        r4_20_03352 = r2_6_146;
-        r4_8_0_03451 = r4_8_0_0_11;
-        r4_8_5_03548 = r4_8_5_0_13;
-        r4_8_8_038_off045 = extract_t43;
-        r2_0_off0 = false;
-        goto join_3;
-    }
-    initialization_initialize(r0, r2);
-    uint8_t v11 = *r0;
-    uint8_t v12 = r0[1];
-    uint8_t v13 = r0[2];
-    uint8_t r4_8_0_0 = r0[16];
-    memcpy(r4_8_4, r0 + 17, 15);
-    u128 r4_8_5_0 = load128_aligned(r0 + 32);
-    memcpy(r4_8_6, r0 + 48, 97);
-    uint8_t r4_8_7_0 = r0[145];
-    uint8_t r4_8_8_0 = r0[146];
-    memcpy(r4_8_9, r0 + 147, 13);
-    uint8_t v14 = r0[160];
-    uint8_t v15 = r0[161];
-    uint8_t v16 = r0[162];
-    if (v11 == 0u) {
-        bool extract_t42 = (r4_8_8_0 & 1u) != 0;
-        memcpy(r1_2, r4_8_4, 15);
-        memcpy(r1_4, r4_8_6, 97);
-        memcpy(r1_7, r4_8_9, 13);
-        if ((r4_8_7_0 & 1u) != 0) {
-            r4_12_03157 = v14;
-            r4_16_03255 = v15;
-            r4_20_03353 = v16;
-            r4_8_0_03450 = r4_8_0_0;
-            r4_8_5_03547 = r4_8_5_0;
-            r4_8_8_038_off046 = extract_t42;
-            goto then_1;
-        }
-        r4_12_03156 = v14;
-        r4_16_03254 = v15;
-        r4_20_03352 = v16;
-        r4_8_0_03451 = r4_8_0_0;
-        r4_8_5_03548 = r4_8_5_0;
-        r4_8_8_038_off045 = extract_t42;
-        r2_0_off0 = false;
-        goto join_3;
-    }
-    if (v12 != 0u) {
-        r6_0 = (v13 == 0u) ? UINT32_C(0xffffffec) : UINT32_C(0xffffffeb);
+        r6_0 = load32_aligned(at((uint8_t *)bytes_opening_open_once, (uint64_t)r2_2_1 * 4u));
         goto kelifandro_opening_open_over_1bed76fd314cf36e_exit;
     }
-    r6_0 = load32_aligned(at((uint8_t *)bytes_opening_open_once, (uint64_t)v13 * 4u));
-    goto kelifandro_opening_open_over_1bed76fd314cf36e_exit;
-}
-then_1: {
-    uint64_t r14 = (uint64_t)u128_lshr(r4_8_5_03547, 56u).lo & UINT64_C(0xffffffffffff);
-    if (r4_8_0_03450 != 1u) {
-        r4_12_03156 = r4_12_03157;
-        r4_16_03254 = r4_16_03255;
-        r4_20_03352 = r4_20_03353;
-        r4_8_0_03451 = r4_8_0_03450;
-        r4_8_5_03548 = r4_8_5_03547;
-        r4_8_8_038_off045 = r4_8_8_038_off046;
+    r1_0_0_2 = r4_3[16];
+    r1_3_0_2 = load128_aligned(r4_3 + 32);
+    r1_6_0 = r4_3[146];
+    v10 = r4_3[160];
+    v11 = r4_3[161];
+    v12 = r4_3[162];
+    if (!((r4_3[145] & 1u) != 0)) {
+        r2_0_off0 = false;
+        goto join_3;
+    }
+    uint64_t r14 = (uint64_t)u128_lshr(r1_3_0_2, 56u).lo & UINT64_C(0xffffffffffff);
+    if (r1_0_0_2 != 1u) {
         r2_0_off0 = true;
         goto join_3;
     }
-    switch ((uint8_t)u128_lshr(r4_8_5_03547, 120u).lo) {
+    switch ((uint8_t)u128_lshr(r1_3_0_2, 120u).lo) {
     default: {
-        r4_12_03156 = r4_12_03157;
-        r4_16_03254 = r4_16_03255;
-        r4_20_03352 = r4_20_03353;
-        r4_8_0_03451 = 1u;
-        r4_8_5_03548 = r4_8_5_03547;
-        r4_8_8_038_off045 = r4_8_8_038_off046;
         r2_0_off0 = true;
         goto join_3;
     }
     case 2u: {
         switch (r14) {
         default: {
-            if (r4_8_8_038_off046) {
-                r4_12_031565980 = r4_12_03157;
-                r4_16_032546179 = r4_16_03255;
-                r4_20_033526378 = r4_20_03353;
-                r4_8_0_034516477 = 1u;
-                r4_8_5_035486676 = r4_8_5_03547;
-                r2_0_off0_6875 = true;
-                r5_0_shrunk = false;
-                goto mmc_switch_known_faults_locks_up_at_cmd23_exit;
-            }
-            r2_0_off0_67 = true;
-            r4_8_0_0345165 = 1u;
-            r4_20_0335262 = r4_20_03353;
-            r4_16_0325460 = r4_16_03255;
-            r4_12_0315658 = r4_12_03157;
-            r4_8_5_03549 = r4_8_5_03547;
-            r6_0_off0 = false;
-            goto arm_1_9;
+            r2_0_off0 = true;
+            goto join_3;
         }
         case UINT64_C(0x53454d303247):
         case UINT64_C(0x53454d303447):
         case UINT64_C(0x53454d303847):
         case UINT64_C(0x53454d313647):
         case UINT64_C(0x53454d333247): {
-            r4_12_03156 = r4_12_03157;
-            r4_16_03254 = r4_16_03255;
-            r4_20_03352 = r4_20_03353;
-            r4_8_0_03451 = 1u;
-            r4_8_5_03548 = r4_8_5_03547;
-            r4_8_8_038_off045 = r4_8_8_038_off046;
             r2_0_off0 = false;
             goto join_3;
         }
@@ -1565,138 +1429,63 @@ then_1: {
     case 112u: {
         switch (r14) {
         default: {
-            if (r4_8_8_038_off046) {
-                r4_12_031565980 = r4_12_03157;
-                r4_16_032546179 = r4_16_03255;
-                r4_20_033526378 = r4_20_03353;
-                r4_8_0_034516477 = 1u;
-                r4_8_5_035486676 = r4_8_5_03547;
-                r2_0_off0_6875 = true;
-                r5_0_shrunk = false;
-                goto mmc_switch_known_faults_locks_up_at_cmd23_exit;
-            }
-            r2_0_off0_67 = true;
-            r4_8_0_0345165 = 1u;
-            r4_20_0335262 = r4_20_03353;
-            r4_16_0325460 = r4_16_03255;
-            r4_12_0315658 = r4_12_03157;
-            r4_8_5_03549 = r4_8_5_03547;
-            r6_0_off0 = false;
-            goto arm_1_9;
+            r2_0_off0 = true;
+            goto join_3;
         }
         case UINT64_C(0x4d3632373034):
         case UINT64_C(0x563130303038):
         case UINT64_C(0x563130303136): {
-            r4_12_03156 = r4_12_03157;
-            r4_16_03254 = r4_16_03255;
-            r4_20_03352 = r4_20_03353;
-            r4_8_0_03451 = 1u;
-            r4_8_5_03548 = r4_8_5_03547;
-            r4_8_8_038_off045 = r4_8_8_038_off046;
             r2_0_off0 = false;
             goto join_3;
         }
         }
     }
     case 19u: {
-        bool r29 = r14 != UINT64_C(0x51324a353441);
-        if (r4_8_8_038_off046) {
-            r4_12_031565980 = r4_12_03157;
-            r4_16_032546179 = r4_16_03255;
-            r4_20_033526378 = r4_20_03353;
-            r4_8_0_034516477 = 1u;
-            r4_8_5_035486676 = r4_8_5_03547;
-            r2_0_off0_6875 = r29;
-            r5_0_shrunk = false;
-            goto mmc_switch_known_faults_locks_up_at_cmd23_exit;
-        }
-        r2_0_off0_67 = r29;
-        r4_8_0_0345165 = 1u;
-        r4_20_0335262 = r4_20_03353;
-        r4_16_0325460 = r4_16_03255;
-        r4_12_0315658 = r4_12_03157;
-        r4_8_5_03549 = r4_8_5_03547;
-        r6_0_off0 = false;
-        goto arm_1_9;
+        r2_0_off0 = r14 != UINT64_C(0x51324a353441);
+        goto join_3;
     }
     }
 }
 join_3: {
-    if (!r4_8_8_038_off045) {
-        r2_0_off0_67 = r2_0_off0;
-        r4_8_0_0345165 = r4_8_0_03451;
-        r4_20_0335262 = r4_20_03352;
-        r4_16_0325460 = r4_16_03254;
-        r4_12_0315658 = r4_12_03156;
-        r4_8_5_03549 = r4_8_5_03548;
+    if (!((r1_6_0 & 1u) != 0)) {
         r6_0_off0 = false;
-        goto arm_1_9;
+        goto arm_1_7;
     }
-    if (r4_8_0_03451 != 0u) {
-        r4_12_031565980 = r4_12_03156;
-        r4_16_032546179 = r4_16_03254;
-        r4_20_033526378 = r4_20_03352;
-        r4_8_0_034516477 = r4_8_0_03451;
-        r4_8_5_035486676 = r4_8_5_03548;
-        r2_0_off0_6875 = r2_0_off0;
+    if (r1_0_0_2 != 0u) {
         r5_0_shrunk = false;
         goto mmc_switch_known_faults_locks_up_at_cmd23_exit;
     }
-    switch ((uint8_t)u128_lshr(r4_8_5_03548, 120u).lo) {
+    switch ((uint8_t)u128_lshr(r1_3_0_2, 120u).lo) {
     default: {
-        r4_12_031565980 = r4_12_03156;
-        r4_16_032546179 = r4_16_03254;
-        r4_20_033526378 = r4_20_03352;
-        r4_8_0_034516477 = 0u;
-        r4_8_5_035486676 = r4_8_5_03548;
-        r2_0_off0_6875 = r2_0_off0;
         r5_0_shrunk = false;
         goto mmc_switch_known_faults_locks_up_at_cmd23_exit;
     }
     case 9u: {
-        r4_12_031565980 = r4_12_03156;
-        r4_16_032546179 = r4_16_03254;
-        r4_20_033526378 = r4_20_03352;
-        r4_8_0_034516477 = 0u;
-        r4_8_5_035486676 = r4_8_5_03548;
-        r2_0_off0_6875 = r2_0_off0;
-        r5_0_shrunk = u128_eq(u128_and(r4_8_5_03548, u128_of(UINT64_C(0xffffffffff), 0u)), u128_of(UINT64_C(0x4146205344), 0u));
+        r5_0_shrunk = u128_eq(u128_and(r1_3_0_2, u128_of(UINT64_C(0xffffffffff), 0u)), u128_of(UINT64_C(0x4146205344), 0u));
         goto mmc_switch_known_faults_locks_up_at_cmd23_exit;
     }
     case 39u: {
-        r4_12_031565980 = r4_12_03156;
-        r4_16_032546179 = r4_16_03254;
-        r4_20_033526378 = r4_20_03352;
-        r4_8_0_034516477 = 0u;
-        r4_8_5_035486676 = r4_8_5_03548;
-        r2_0_off0_6875 = r2_0_off0;
-        r5_0_shrunk = u128_eq(u128_and(r4_8_5_03548, u128_of(UINT64_C(0xffffffffff), 0u)), u128_of(UINT64_C(0x4150555344), 0u));
+        r5_0_shrunk = u128_eq(u128_and(r1_3_0_2, u128_of(UINT64_C(0xffffffffff), 0u)), u128_of(UINT64_C(0x4150555344), 0u));
         goto mmc_switch_known_faults_locks_up_at_cmd23_exit;
     }
     }
 }
 mmc_switch_known_faults_locks_up_at_cmd23_exit: {
-    r2_0_off0_67 = r2_0_off0_6875;
-    r4_8_0_0345165 = r4_8_0_034516477;
-    r4_20_0335262 = r4_20_033526378;
-    r4_16_0325460 = r4_16_032546179;
-    r4_12_0315658 = r4_12_031565980;
-    r4_8_5_03549 = r4_8_5_035486676;
     r6_0_off0 = r5_0_shrunk != true;
 }
-arm_1_9: {
-    *r9 = r4_8_0_0345165;
-    memcpy(r9 + 1, r1_2, 15);
-    store128_aligned(r9 + 16, r4_8_5_03549);
-    memcpy(r9 + 32, r1_4, 97);
-    r9[129] = (uint8_t)r2_0_off0_67;
+arm_1_7: {
+    memcpy(r9 + 32, r4_3 + 48, 97);
+    *r9 = r1_0_0_2;
+    memcpy(r9 + 1, r4_3 + 17, 15);
+    store128_aligned(r9 + 16, r1_3_0_2);
+    r9[129] = (uint8_t)r2_0_off0;
     r9[130] = (uint8_t)r6_0_off0;
-    memcpy(r9 + 131, r1_7, 13);
-    r9[144] = r4_12_0315658;
-    r9[145] = r4_16_0325460;
-    r9[146] = r4_20_0335262;
-    noted_note(r7_3, r9);
-    memcpy(a1, r7_3, 104);
+    memcpy(r9 + 131, r4_3 + 147, 13);
+    r9[144] = v10;
+    r9[145] = v11;
+    r9[146] = v12;
+    noted_note(r7_4, r9);
+    memcpy(a1, r7_4, 104);
     noting_stands_by(r2_2, a1);
     if (*r2_2 == 1u) {
         v = 0u;
@@ -1710,7 +1499,7 @@ kelifandro_opening_is_noted_exit: {
 }
 kelifandro_opening_open_over_1bed76fd314cf36e_exit: {
     uint8_t r0_0_0 = *r2;
-    memcpy(r4 + 4, r2 + 4, 84);
+    memcpy(r4 + 4, r2 + 4, 88);
     store32_aligned(r4, (uint32_t)r0_0_0);
     hosts_end(r4, r6_0 != 0u);
     r7_0 = r6_0;
@@ -1884,8 +1673,8 @@ mmc_sdhci_settling_settle_clock_d002fd087b3dc1c2_exit: {
 }
 }
 
-/* mmc_switch::initialization::initialize::<#1bed76fd314cf36e> */
-static void initialization_initialize(uint8_t *a0, uint8_t *a1)
+/* mmc_switch::opening::initialize_in::<#1bed76fd314cf36e> */
+static void opening_initialize_in(uint8_t *a0, uint8_t *a1, uint64_t a2)
 {
     KELIFANDRO_ROOM uint8_t room[512];
     uint8_t *const r0_4 = room;
@@ -1900,24 +1689,44 @@ static void initialization_initialize(uint8_t *a0, uint8_t *a1)
     uint8_t *const r1_28 = room + 32;
     KELIFANDRO_ROOM uint8_t r5[80];
     KELIFANDRO_ROOM uint8_t r2[64];
+    uint64_t r2_0263;
     uint8_t r16;
     bool v1;
     uint8_t r4_6_pre;
     uint8_t r0_0_0;
+    uint8_t r0_2_0;
+    uint8_t r14_8_0_2_0;
+    uint8_t r14_8_0_3_0;
+    uint8_t r14_8_0_4_0;
+    uint8_t r14_8_0_5_0;
+    uint8_t r14_8_0_6_0;
+    uint8_t r14_8_0_7_0;
+    uint8_t r14_8_0_8_0;
+    uint8_t r14_8_0_9_0;
+    uint8_t r14_8_0_10_0;
+    uint8_t r14_8_0_11_0;
+    uint8_t r14_8_0_12_0;
+    uint8_t r14_8_0_13_0;
+    uint8_t r14_8_0_14_0;
     uint8_t r14_8_0_16_0;
+    uint8_t r14_8_0_18_0;
+    uint32_t r14_8_4_0;
+    uint64_t r14_8_5_0;
     uint8_t r14_8_6_0;
-    uint8_t v39;
-    uint64_t v41;
-    bool v43;
-    uint64_t v50;
-    uint64_t v52;
-    uint64_t v59;
-    uint64_t v66;
-    uint64_t v73;
-    bool v74;
-    uint8_t v76;
-    uint64_t v78;
+    uint8_t r14_8_7_2_0;
+    uint8_t r14_8_7_4_0;
+    bool v37;
     uint16_t r80;
+    uint8_t v101;
+    uint64_t v102;
+    uint64_t v103;
+    uint64_t v104;
+    uint64_t v105;
+    uint8_t v106;
+    bool v107;
+    uint64_t v108;
+    bool v109;
+    uint64_t v110;
     uint8_t r21;
     uint64_t v;
     uint64_t r1_0;
@@ -1938,78 +1747,46 @@ static void initialization_initialize(uint8_t *a0, uint8_t *a1)
     uint8_t r3_3_0_62;
     uint8_t r3;
     uint64_t r1_3_2_0;
-    uint8_t *sink80_phi;
+    uint8_t *sink392_phi;
     uint8_t *r1_28_sink;
-    uint8_t r1_14_0_57;
-    uint16_t r1_22_0_56;
-    uint8_t r1_26_0_55_in;
-    uint64_t r1_30_0_54;
-    u128 r1_38_0_53_in_in_in;
-    uint64_t r1_4021_0_52;
-    uint8_t r1_42_0_51;
-    uint8_t r1_44_0_50;
-    uint8_t r1_51_0_49;
-    uint8_t r1_53_0_48;
-    uint64_t r1_37_0_47;
-    uint64_t r1_36_0_46;
-    uint64_t r1_35_0_45;
-    uint64_t r1_34_0_44;
-    uint64_t r1_32_0_43;
-    uint8_t r1_46_0_r1_46_0_r1_46_16_42;
-    uint8_t r1_5522_0_r1_5522_0_r1_5522_160_r0_6_160_41;
+    uint8_t r1_14_0_86;
+    uint16_t r1_22_0_85;
+    uint8_t r1_26_0_84_in;
+    uint64_t r1_30_0_83;
+    u128 r1_38_0_82_in_in_in;
+    uint64_t r1_4021_0_81;
+    uint8_t r1_42_0_80;
+    uint8_t r1_44_0_79;
+    uint8_t r1_51_0_78;
+    uint8_t r1_53_0_77;
+    uint64_t r1_37_0_76;
+    uint64_t r1_36_0_75;
+    uint64_t r1_35_0_74;
+    uint64_t r1_34_0_73;
+    uint64_t r1_32_0_72;
+    uint8_t r1_46_0_r1_46_0_r1_46_16_71;
+    uint8_t r1_5522_0_r1_5522_0_r1_5522_160_r0_6_160_70;
     uint8_t r1_8_0_ph;
-    uint8_t r7_9_0_0;
-    uint8_t r7_9_2_0;
-    uint16_t r7_9_3_0;
-    u128 r7_9_5_0;
-    uint64_t r7_9_7_0;
-    uint64_t r7_9_8_0;
-    uint64_t r7_9_9_0;
-    uint64_t r7_9_10_0;
-    uint64_t r7_9_11_0;
-    uint64_t r7_9_12_0;
-    uint8_t r7_9_13_0;
-    uint64_t r7_9_15_0;
-    uint8_t r7_9_16_0;
-    uint8_t r7_9_17_0;
-    uint8_t r7_9_18_0;
-    uint8_t r7_9_19_0;
-    uint8_t r7_9_20_0;
-    uint8_t r7_0_0;
-    uint8_t r7_3_0;
-    uint8_t r7_6_0;
-    uint8_t r7_11_0;
+    uint8_t r7_3_0_ph;
+    uint8_t r7_6_0_ph;
+    uint64_t sink458;
+    uint8_t r7_3_0_ph_sink;
+    uint64_t sink;
+    uint8_t r7_6_0_ph_sink;
+    r2_0263 = 0u;
+join_5: {
     identification_identify(r5, a1);
     if (*r5 != 0u) {
-        r7_9_0_0 = 0u; /* any */
-        r7_9_2_0 = 0u; /* any */
-        r7_9_3_0 = 0u; /* any */
-        r7_9_5_0 = u128_of(0u, 0u); /* any */
-        r7_9_7_0 = 0u; /* any */
-        r7_9_8_0 = 0u; /* any */
-        r7_9_9_0 = 0u; /* any */
-        r7_9_10_0 = 0u; /* any */
-        r7_9_11_0 = 0u; /* any */
-        r7_9_12_0 = 0u; /* any */
-        r7_9_13_0 = 0u; /* any */
-        r7_9_15_0 = 0u; /* any */
-        r7_9_16_0 = 0u; /* any */
-        r7_9_17_0 = 0u; /* any */
-        r7_9_18_0 = 0u; /* any */
-        r7_9_19_0 = 0u; /* any */
-        r7_9_20_0 = 0u; /* any */
-        r7_0_0 = 1u;
-        r7_3_0 = 0u;
-        r7_6_0 = r5[1];
-        r7_11_0 = 0u; /* any */
-        goto join_4;
+        r7_3_0_ph = 0u;
+        r7_6_0_ph = r5[1];
+        goto arm_7;
     }
     memcpy(r2, r5 + 16, 64);
     r16 = r2[1];
     v1 = r16 == 0u;
     r4_6_pre = *r2;
     if (!v1) {
-        goto join_4_2;
+        goto join_4;
     }
     host_ask(r2_2, a1, 16u, 512u);
     if (*r2_2 != 0u) {
@@ -2017,33 +1794,15 @@ static void initialization_initialize(uint8_t *a0, uint8_t *a1)
     }
     uint32_t v4 = load32_aligned(r2_2 + 4);
     if ((v4 & ((r4_6_pre == 0u) ? UINT32_C(0xfd39a000) : UINT32_C(0xfd39a080))) == 0u) {
-        goto join_4_2;
+        goto join_4;
     }
-mmc_switch_widening_widen_1bed76fd314cf36e_exit_thread: {
-    r7_9_0_0 = 0u; /* any */
-    r7_9_2_0 = 0u;
-    r7_9_3_0 = 0u; /* any */
-    r7_9_5_0 = u128_of(0u, 0u); /* any */
-    r7_9_7_0 = 0u; /* any */
-    r7_9_8_0 = 0u; /* any */
-    r7_9_9_0 = 0u; /* any */
-    r7_9_10_0 = 0u; /* any */
-    r7_9_11_0 = 0u; /* any */
-    r7_9_12_0 = 0u; /* any */
-    r7_9_13_0 = 0u; /* any */
-    r7_9_15_0 = 0u; /* any */
-    r7_9_16_0 = 0u; /* any */
-    r7_9_17_0 = 0u; /* any */
-    r7_9_18_0 = 0u; /* any */
-    r7_9_19_0 = 0u; /* any */
-    r7_9_20_0 = 0u; /* any */
-    r7_0_0 = 1u;
-    r7_3_0 = 1u;
-    r7_6_0 = 0u;
-    r7_11_0 = 0u; /* any */
-    goto join_4;
 }
-join_4_2: {
+mmc_switch_widening_widen_1bed76fd314cf36e_exit_thread: {
+    r7_3_0_ph = 1u;
+    r7_6_0_ph = 0u;
+    goto arm_7;
+}
+join_4: {
     if (r4_6_pre == 0u) {
         r24 = load16_aligned(r2 + 2);
         r4_0 = load128_aligned(r2 + 48);
@@ -2051,7 +1810,7 @@ join_4_2: {
         uint8_t r7 = sd_announce_2(a1, r24);
         if (r7 != 0u) {
             r1_8_0_ph = 0u;
-            goto mmc_switch_widening_widen_1bed76fd314cf36e_exit_thread1;
+            goto mmc_switch_widening_widen_1bed76fd314cf36e_exit_thread_2;
         }
         host_ask(r7_2, a1, 51u, 0u);
         if (*r7_2 != 0u) {
@@ -2070,29 +1829,29 @@ join_4_2: {
             r0_3_0_ph = 0u;
             goto arm_5;
         }
-        if (a1[90] == 0u) {
+        if (a1[98] == 0u) {
             r0_3_0_ph = 0u;
             goto arm_5;
         }
         uint8_t r12 = sd_announce_2(a1, r24);
         if (r12 != 0u) {
             r1_8_0_ph = 0u;
-            goto mmc_switch_widening_widen_1bed76fd314cf36e_exit_thread1;
+            goto mmc_switch_widening_widen_1bed76fd314cf36e_exit_thread_2;
         }
         host_ask(r2_4, a1, 6u, 2u);
         uint8_t v16 = *r2_4;
         uint32_t v18 = load32_aligned(r2_4 + 4);
         if (!((v16 == 0u) && ((v18 & UINT32_C(0xfd39a000)) == 0u))) {
             r1_8_0_ph = 0u;
-            goto mmc_switch_widening_widen_1bed76fd314cf36e_exit_thread1;
+            goto mmc_switch_widening_widen_1bed76fd314cf36e_exit_thread_2;
         }
-        a1[88] = 1u;
-        a1[89] = 0u;
+        a1[96] = 1u;
+        a1[97] = 0u;
         r0_3_0_ph = 1u;
         goto arm_5;
     }
-    r0_0_0 = a1[90];
-    uint8_t r0_2_0 = a1[91];
+    r0_0_0 = a1[98];
+    r0_2_0 = a1[99];
     host_ask(r7_3, a1, 8u, 0u);
     if (*r7_3 != 0u) {
         goto arm_2_6;
@@ -2105,52 +1864,42 @@ join_4_2: {
     if (r40 != 0u) {
         goto arm_2_6;
     }
-    uint8_t r14_8_0_2_0 = r2_3_2[143];
-    uint8_t r14_8_0_3_0 = r2_3_2[144];
-    uint8_t r14_8_0_4_0 = r2_3_2[145];
-    uint8_t r14_8_0_5_0 = r2_3_2[146];
-    uint8_t r14_8_0_6_0 = r2_3_2[147];
-    uint8_t r14_8_0_7_0 = r2_3_2[148];
-    uint8_t r14_8_0_8_0 = r2_3_2[149];
-    uint8_t r14_8_0_9_0 = r2_3_2[150];
-    uint8_t r14_8_0_10_0 = r2_3_2[151];
-    uint8_t r14_8_0_11_0 = r2_3_2[152];
-    uint8_t r14_8_0_12_0 = r2_3_2[153];
-    uint8_t r14_8_0_13_0 = r2_3_2[154];
-    uint8_t r14_8_0_14_0 = r2_3_2[155];
+    r14_8_0_2_0 = r2_3_2[143];
+    r14_8_0_3_0 = r2_3_2[144];
+    r14_8_0_4_0 = r2_3_2[145];
+    r14_8_0_5_0 = r2_3_2[146];
+    r14_8_0_6_0 = r2_3_2[147];
+    r14_8_0_7_0 = r2_3_2[148];
+    r14_8_0_8_0 = r2_3_2[149];
+    r14_8_0_9_0 = r2_3_2[150];
+    r14_8_0_10_0 = r2_3_2[151];
+    r14_8_0_11_0 = r2_3_2[152];
+    r14_8_0_12_0 = r2_3_2[153];
+    r14_8_0_13_0 = r2_3_2[154];
+    r14_8_0_14_0 = r2_3_2[155];
     r14_8_0_16_0 = r2_3_2[179];
-    uint8_t r14_8_0_18_0 = r2_3_2[181];
+    r14_8_0_18_0 = r2_3_2[181];
     uint8_t r14_8_2_0 = r2_3_2[192];
     uint8_t r14_8_3_2_0 = r2_3_2[196];
-    uint32_t r14_8_4_0 = load32(r2_3_2 + 212);
-    uint64_t r14_8_5_0 = load64(r2_3_2 + 216);
+    r14_8_4_0 = load32(r2_3_2 + 212);
+    r14_8_5_0 = load64(r2_3_2 + 216);
     r14_8_6_0 = r2_3_2[224];
-    uint8_t r14_8_7_2_0 = r2_3_2[226];
-    uint8_t r14_8_7_4_0 = r2_3_2[231];
-    v39 = (uint8_t)(((uint8_t)(r14_8_3_2_0 & 2u) == 0u) ? 0u : r0_2_0);
-    v41 = (uint64_t)r14_8_7_2_0 << 8u;
-    v43 = (uint8_t)(r14_8_0_14_0 & 1u) == 0u;
-    v50 = (((uint64_t)r14_8_0_3_0 << 8u) | (uint64_t)r14_8_0_2_0) | ((uint64_t)r14_8_0_4_0 << 16u);
-    v52 = (r14_8_5_0 >> 30u) & UINT64_C(0x3fc00);
-    v59 = (((uint64_t)r14_8_0_6_0 << 8u) | (uint64_t)r14_8_0_5_0) | ((uint64_t)r14_8_0_7_0 << 16u);
-    v66 = (((uint64_t)r14_8_0_9_0 << 8u) | (uint64_t)r14_8_0_8_0) | ((uint64_t)r14_8_0_10_0 << 16u);
-    v73 = (((uint64_t)r14_8_0_12_0 << 8u) | (uint64_t)r14_8_0_11_0) | ((uint64_t)r14_8_0_13_0 << 16u);
-    v74 = r14_8_0_18_0 != 0u;
-    v76 = (uint8_t)((uint8_t)((uint32_t)r14_8_7_4_0 >> 4u) & 1u);
+    r14_8_7_2_0 = r2_3_2[226];
+    r14_8_7_4_0 = r2_3_2[231];
+    v37 = (uint8_t)(r14_8_3_2_0 & 2u) == 0u;
     if ((r14_8_2_0 < 5u) || (r14_8_6_0 == 0u)) {
         r1_8_2_ph = 1u;
-        goto mmc_switch_widening_widen_1bed76fd314cf36e_exit_thread60;
+        goto mmc_switch_widening_widen_1bed76fd314cf36e_exit_thread89;
     }
     if (!((r16 != 1u) || (r14_8_4_0 != 0u))) {
         r1_8_2_ph = 1u;
-        goto mmc_switch_widening_widen_1bed76fd314cf36e_exit_thread60;
+        goto mmc_switch_widening_widen_1bed76fd314cf36e_exit_thread89;
     }
-    v78 = (uint64_t)r14_8_4_0;
     r80 = load16_aligned(r2 + 2);
     struct of_i8_i8 r6_21 = mmc_switch(a1, r80, UINT32_C(0x3af0100));
     if (r6_21.f0 != 0u) {
         r1_8_2_ph = 0u;
-        goto mmc_switch_widening_widen_1bed76fd314cf36e_exit_thread60;
+        goto mmc_switch_widening_widen_1bed76fd314cf36e_exit_thread89;
     }
     if (r0_0_0 == 0u) {
         goto arm_6_25;
@@ -2158,33 +1907,48 @@ join_4_2: {
     struct of_i8_i8 r16_2 = mmc_switch(a1, r80, ((uint32_t)r0_0_0 << 8u) | UINT32_C(0x3b70000));
     if (r16_2.f0 != 0u) {
         r1_8_2_ph = 0u;
-        goto mmc_switch_widening_widen_1bed76fd314cf36e_exit_thread60;
+        goto mmc_switch_widening_widen_1bed76fd314cf36e_exit_thread89;
     }
-    a1[88] = r0_0_0;
-    a1[89] = 0u;
+    a1[96] = r0_0_0;
+    a1[97] = 0u;
     goto arm_6_25;
 }
 arm_2_6: {
     r1_8_2_ph = 0u;
-    goto mmc_switch_widening_widen_1bed76fd314cf36e_exit_thread60;
+    goto mmc_switch_widening_widen_1bed76fd314cf36e_exit_thread89;
 }
 arm_6_25: {
-    if (v39 == 0u) {
+    if (v37 || (r0_2_0 == 0u)) {
+        v101 = 0u;
+        v102 = (((uint64_t)r14_8_0_3_0 << 8u) | (uint64_t)r14_8_0_2_0) | ((uint64_t)r14_8_0_4_0 << 16u);
+        v103 = (((uint64_t)r14_8_0_6_0 << 8u) | (uint64_t)r14_8_0_5_0) | ((uint64_t)r14_8_0_7_0 << 16u);
+        v104 = (((uint64_t)r14_8_0_9_0 << 8u) | (uint64_t)r14_8_0_8_0) | ((uint64_t)r14_8_0_10_0 << 16u);
+        v105 = (((uint64_t)r14_8_0_12_0 << 8u) | (uint64_t)r14_8_0_11_0) | ((uint64_t)r14_8_0_13_0 << 16u);
         goto arm_8;
     }
     struct of_i8_i8 r12_2 = mmc_switch(a1, r80, UINT32_C(0x3b90100));
     if (r12_2.f0 != 0u) {
         r1_8_2_ph = 0u;
-        goto mmc_switch_widening_widen_1bed76fd314cf36e_exit_thread60;
+        goto mmc_switch_widening_widen_1bed76fd314cf36e_exit_thread89;
     }
-    a1[88] = r0_0_0;
-    a1[89] = 1u;
+    a1[96] = r0_0_0;
+    a1[97] = 1u;
+    v101 = r0_2_0;
+    v102 = (((uint64_t)r14_8_0_3_0 << 8u) | (uint64_t)r14_8_0_2_0) | ((uint64_t)r14_8_0_4_0 << 16u);
+    v103 = (((uint64_t)r14_8_0_6_0 << 8u) | (uint64_t)r14_8_0_5_0) | ((uint64_t)r14_8_0_7_0 << 16u);
+    v104 = (((uint64_t)r14_8_0_9_0 << 8u) | (uint64_t)r14_8_0_8_0) | ((uint64_t)r14_8_0_10_0 << 16u);
+    v105 = (((uint64_t)r14_8_0_12_0 << 8u) | (uint64_t)r14_8_0_11_0) | ((uint64_t)r14_8_0_13_0 << 16u);
 }
 arm_8: {
+    v106 = (uint8_t)((uint8_t)((uint32_t)r14_8_7_4_0 >> 4u) & 1u);
+    v107 = r14_8_0_18_0 != 0u;
+    v108 = (r14_8_5_0 >> 30u) & UINT64_C(0x3fc00);
+    v109 = (uint8_t)(r14_8_0_14_0 & 1u) == 0u;
+    v110 = (uint64_t)r14_8_7_2_0 << 8u;
     r21 = r2[32];
     if (!v1) {
         v = UINT64_C(0x100000000);
-        r1_0 = v78;
+        r1_0 = (uint64_t)r14_8_4_0;
         goto mmc_switch_registers_mmc_info_exit;
     }
     uint64_t r7_17 = Csd_sectors(r2 + 32);
@@ -2194,79 +1958,61 @@ arm_8: {
 mmc_switch_registers_mmc_info_exit: {
     a0_14 = (r1_0 > v) ? 0u : r1_0;
     pre = (uint64_t)r14_8_6_0;
-    if (v43) {
+    if (v109) {
         a0_17_297 = 0u;
         a0_11_283288296 = 0u;
         a0_14_289295 = 0u;
         common_ret_op = 0u;
         goto mmc_switch_widening_widen_1bed76fd314cf36e_exit;
     }
-    uint64_t r24_139 = (v50 * pre) * v52;
-    uint64_t r24_110 = (v59 * pre) * v52;
-    uint64_t r24_81 = (v66 * pre) * v52;
+    uint64_t r15_138 = v108 * pre;
+    uint64_t r24_139 = r15_138 * v102;
+    uint64_t r24_110 = r15_138 * v103;
+    uint64_t r24_81 = r15_138 * v104;
     a0_17_297 = (r24_81 > v) ? 0u : r24_81;
     a0_11_283288296 = (r24_139 > v) ? 0u : r24_139;
     a0_14_289295 = (r24_110 > v) ? 0u : r24_110;
-    common_ret_op = (v73 * pre) * v52;
+    common_ret_op = r15_138 * v105;
 }
 mmc_switch_widening_widen_1bed76fd314cf36e_exit: {
     u128 r4_0_15 = load128_aligned(r2 + 48);
     memcpy(r0_4 + 12, r5 + 32, 16);
-    sink80_phi = r5 + 64;
+    sink392_phi = r5 + 64;
     r1_28_sink = r1_28;
-    r1_14_0_57 = 1u;
-    r1_22_0_56 = r80;
-    r1_26_0_55_in = r21;
-    r1_30_0_54 = a0_14;
-    r1_38_0_53_in_in_in = r4_0_15;
-    r1_4021_0_52 = pre << 10u;
-    r1_42_0_51 = (uint8_t)(v74 ? 255u : 0u);
-    r1_44_0_50 = v76;
-    r1_51_0_49 = r0_0_0;
-    r1_53_0_48 = v39;
-    r1_37_0_47 = (common_ret_op > v) ? 0u : common_ret_op;
-    r1_36_0_46 = a0_17_297;
-    r1_35_0_45 = a0_14_289295;
-    r1_34_0_44 = a0_11_283288296;
-    r1_32_0_43 = v41;
-    r1_46_0_r1_46_0_r1_46_16_42 = 1u;
-    r1_5522_0_r1_5522_0_r1_5522_160_r0_6_160_41 = r14_8_0_16_0;
-    goto arm_5_2;
+    r1_14_0_86 = 1u;
+    r1_22_0_85 = r80;
+    r1_26_0_84_in = r21;
+    r1_30_0_83 = a0_14;
+    r1_38_0_82_in_in_in = r4_0_15;
+    r1_4021_0_81 = pre << 10u;
+    r1_42_0_80 = (uint8_t)(v107 ? 255u : 0u);
+    r1_44_0_79 = v106;
+    r1_51_0_78 = r0_0_0;
+    r1_53_0_77 = v101;
+    r1_37_0_76 = (common_ret_op > v) ? 0u : common_ret_op;
+    r1_36_0_75 = a0_17_297;
+    r1_35_0_74 = a0_14_289295;
+    r1_34_0_73 = a0_11_283288296;
+    r1_32_0_72 = v110;
+    r1_46_0_r1_46_0_r1_46_16_71 = 1u;
+    r1_5522_0_r1_5522_0_r1_5522_160_r0_6_160_70 = r14_8_0_16_0;
+    goto arm_6;
 }
-mmc_switch_widening_widen_1bed76fd314cf36e_exit_thread60: {
-    r7_9_0_0 = 1u;
-    r7_9_2_0 = r16;
-    r7_9_3_0 = 0u; /* any */
-    r7_9_5_0 = u128_of(0u, 0u); /* any */
-    r7_9_7_0 = 0u; /* any */
-    r7_9_8_0 = 0u; /* any */
-    r7_9_9_0 = 0u; /* any */
-    r7_9_10_0 = 0u; /* any */
-    r7_9_11_0 = 0u; /* any */
-    r7_9_12_0 = 0u; /* any */
-    r7_9_13_0 = 0u; /* any */
-    r7_9_15_0 = 0u; /* any */
-    r7_9_16_0 = 0u; /* any */
-    r7_9_17_0 = 0u; /* any */
-    r7_9_18_0 = 0u; /* any */
-    r7_9_19_0 = 0u; /* any */
-    r7_9_20_0 = 0u; /* any */
-    r7_0_0 = 1u;
-    r7_3_0 = 1u;
-    r7_6_0 = r1_8_2_ph;
-    r7_11_0 = 0u; /* any */
-    goto join_4;
+mmc_switch_widening_widen_1bed76fd314cf36e_exit_thread89: {
+    r7_3_0_ph = 1u;
+    r7_6_0_ph = r1_8_2_ph;
+    goto arm_7;
 }
 mmc_switch_sd_read_scr_1bed76fd314cf36e_exit_thread46: {
     r1_8_0_ph = 0u;
-    goto mmc_switch_widening_widen_1bed76fd314cf36e_exit_thread1;
+    goto mmc_switch_widening_widen_1bed76fd314cf36e_exit_thread_2;
 }
 arm_5: {
     if (!(r2_0_in && ((r130 & UINT64_C(0xf00000000000000)) != 0u))) {
         r3_3_0_62 = 0u;
         goto arm_8_2;
     }
-    if (a1[91] != 1u) {
+    if (a1[99] != 1u) {
         r3_3_0_62 = 0u;
         goto arm_8_2;
     }
@@ -2286,14 +2032,14 @@ arm_5: {
         r0_3_0_ph_2 = 0u;
         goto mmc_switch_sd_set_timing_1bed76fd314cf36e_exit_thread75;
     }
-    a1[88] = r0_3_0_ph;
-    a1[89] = 1u;
+    a1[96] = r0_3_0_ph;
+    a1[97] = 1u;
     r0_3_0_ph_2 = 1u;
     goto mmc_switch_sd_set_timing_1bed76fd314cf36e_exit_thread75;
 }
 arm_9: {
     r1_8_0_ph = 0u;
-    goto mmc_switch_widening_widen_1bed76fd314cf36e_exit_thread1;
+    goto mmc_switch_widening_widen_1bed76fd314cf36e_exit_thread_2;
 }
 mmc_switch_sd_set_timing_1bed76fd314cf36e_exit_thread75: {
     r3_3_0_62_ph = r0_3_0_ph_2;
@@ -2305,7 +2051,7 @@ arm_8_2: {
     struct of_i8_i8 r82 = status_confirm(a1, 0u, r24);
     if (r82.f0 != 0u) {
         r1_8_0_ph = 0u;
-        goto mmc_switch_widening_widen_1bed76fd314cf36e_exit_thread1;
+        goto mmc_switch_widening_widen_1bed76fd314cf36e_exit_thread_2;
     }
     r3 = r2[32];
     switch (r3) {
@@ -2315,120 +2061,94 @@ arm_8_2: {
     }
     case 2u: {
         r1_8_0_ph = 1u;
-        goto mmc_switch_widening_widen_1bed76fd314cf36e_exit_thread1;
+        goto mmc_switch_widening_widen_1bed76fd314cf36e_exit_thread_2;
     }
     case 0u: {
         if (!u128_eq(u128_and(r4_0, u128_of(0u, UINT64_C(0x400000000000))), u128_of(0u, 0u))) {
             r1_3_2_0 = 1u;
-            goto mmc_switch_widening_widen_1bed76fd314cf36e_exit_thread21;
+            goto mmc_switch_widening_widen_1bed76fd314cf36e_exit_thread50;
         }
         uint64_t v25 = (uint64_t)r4_0.lo;
         r1_3_2_0 = ((uint64_t)((uint64_t)(v25 >> 39u) & 127u) + 1u) << (((uint64_t)((uint64_t)((uint64_t)(v25 >> 22u) & 15u) + 247u) & 255u) & 63u);
-        goto mmc_switch_widening_widen_1bed76fd314cf36e_exit_thread21;
+        goto mmc_switch_widening_widen_1bed76fd314cf36e_exit_thread50;
     }
     case 1u: {
         r1_3_2_0 = 1u;
-        goto mmc_switch_widening_widen_1bed76fd314cf36e_exit_thread21;
+        goto mmc_switch_widening_widen_1bed76fd314cf36e_exit_thread50;
     }
     }
 }
-mmc_switch_widening_widen_1bed76fd314cf36e_exit_thread21: {
+mmc_switch_widening_widen_1bed76fd314cf36e_exit_thread50: {
     memcpy(r1_28, r5 + 64, 16);
     uint64_t r7_7 = Csd_sectors(r2 + 32);
-    sink80_phi = r5 + 32;
+    sink392_phi = r5 + 32;
     r1_28_sink = r0_4 + 12;
-    r1_14_0_57 = 0u;
-    r1_22_0_56 = r24;
-    r1_26_0_55_in = r3;
-    r1_30_0_54 = (v1 && (r7_7 > UINT64_C(0x800000))) ? 0u : r7_7;
-    r1_38_0_53_in_in_in = r4_0;
-    r1_4021_0_52 = r1_3_2_0;
-    r1_42_0_51 = (uint8_t)((((r130 << 8u) ^ (uint64_t)UINT64_C(0x8000000000000000)) >> 63u) - ((uint64_t)UINT64_C(0x8000000000000000) >> 63u));
-    r1_44_0_50 = 0u;
-    r1_51_0_49 = r0_3_0_ph;
-    r1_53_0_48 = r3_3_0_62;
-    r1_37_0_47 = 0u;
-    r1_36_0_46 = 0u;
-    r1_35_0_45 = 0u;
-    r1_34_0_44 = 0u;
-    r1_32_0_43 = 0u;
-    r1_46_0_r1_46_0_r1_46_16_42 = (uint8_t)((uint8_t)(r130 >> 33u) & 1u);
-    r1_5522_0_r1_5522_0_r1_5522_160_r0_6_160_41 = 0u;
+    r1_14_0_86 = 0u;
+    r1_22_0_85 = r24;
+    r1_26_0_84_in = r3;
+    r1_30_0_83 = (v1 && (r7_7 > UINT64_C(0x800000))) ? 0u : r7_7;
+    r1_38_0_82_in_in_in = r4_0;
+    r1_4021_0_81 = r1_3_2_0;
+    r1_42_0_80 = (uint8_t)((((r130 << 8u) ^ (uint64_t)UINT64_C(0x8000000000000000)) >> 63u) - ((uint64_t)UINT64_C(0x8000000000000000) >> 63u));
+    r1_44_0_79 = 0u;
+    r1_51_0_78 = r0_3_0_ph;
+    r1_53_0_77 = r3_3_0_62;
+    r1_37_0_76 = 0u;
+    r1_36_0_75 = 0u;
+    r1_35_0_74 = 0u;
+    r1_34_0_73 = 0u;
+    r1_32_0_72 = 0u;
+    r1_46_0_r1_46_0_r1_46_16_71 = (uint8_t)((uint8_t)(r130 >> 33u) & 1u);
+    r1_5522_0_r1_5522_0_r1_5522_160_r0_6_160_70 = 0u;
 }
-arm_5_2: {
-    memcpy(r1_28_sink, sink80_phi, 16);
-    r7_9_0_0 = r1_14_0_57;
-    r7_9_2_0 = r16;
-    r7_9_3_0 = r1_22_0_56;
-    r7_9_5_0 = u128_of(0u, r1_26_0_55_in);
-    r7_9_7_0 = r1_30_0_54;
-    r7_9_8_0 = r1_32_0_43;
-    r7_9_9_0 = r1_34_0_44;
-    r7_9_10_0 = r1_35_0_45;
-    r7_9_11_0 = r1_36_0_46;
-    r7_9_12_0 = r1_37_0_47;
-    r7_9_13_0 = (uint8_t)!u128_eq(u128_and(r1_38_0_53_in_in_in, u128_of(0u, 12288u)), u128_of(0u, 0u));
-    r7_9_15_0 = r1_4021_0_52;
-    r7_9_16_0 = r1_42_0_51;
-    r7_9_17_0 = r1_44_0_50;
-    r7_9_18_0 = r1_46_0_r1_46_0_r1_46_16_42;
-    r7_9_19_0 = r1_51_0_49;
-    r7_9_20_0 = r1_53_0_48;
-    r7_0_0 = 0u;
-    r7_3_0 = 1u;
-    r7_6_0 = 0u; /* any */
-    r7_11_0 = r1_5522_0_r1_5522_0_r1_5522_160_r0_6_160_41;
-    goto join_4;
-}
-mmc_switch_widening_widen_1bed76fd314cf36e_exit_thread1: {
-    r7_9_0_0 = 0u;
-    r7_9_2_0 = r16;
-    r7_9_3_0 = r24;
-    r7_9_5_0 = u128_of(0u, 0u); /* any */
-    r7_9_7_0 = 0u; /* any */
-    r7_9_8_0 = 0u; /* any */
-    r7_9_9_0 = 0u; /* any */
-    r7_9_10_0 = 0u; /* any */
-    r7_9_11_0 = 0u; /* any */
-    r7_9_12_0 = 0u; /* any */
-    r7_9_13_0 = 0u; /* any */
-    r7_9_15_0 = 0u; /* any */
-    r7_9_16_0 = 0u; /* any */
-    r7_9_17_0 = 0u; /* any */
-    r7_9_18_0 = 0u; /* any */
-    r7_9_19_0 = 0u; /* any */
-    r7_9_20_0 = 0u; /* any */
-    r7_0_0 = 1u;
-    r7_3_0 = 1u;
-    r7_6_0 = r1_8_0_ph;
-    r7_11_0 = 0u; /* any */
-}
-join_4: {
-    *a0 = r7_0_0;
-    a0[1] = r7_3_0;
-    a0[2] = r7_6_0;
-    a0[16] = r7_9_0_0;
-    a0[17] = r7_9_2_0;
-    store16(a0 + 18, r7_9_3_0);
+arm_6: {
+    memcpy(r1_28_sink, sink392_phi, 16);
+    *a0 = 0u;
+    a0[16] = r1_14_0_86;
+    a0[17] = r16;
+    store16(a0 + 18, r1_22_0_85);
     memcpy(a0 + 20, r0_4, 28);
-    store128(a0 + 48, r7_9_5_0);
+    store128(a0 + 48, u128_of(0u, r1_26_0_84_in));
     memcpy(a0 + 64, r1_28, 16);
-    store64(a0 + 80, r7_9_7_0);
-    store64(a0 + 88, r7_9_8_0);
-    store64(a0 + 96, r7_9_9_0);
-    store64(a0 + 104, r7_9_10_0);
-    store64(a0 + 112, r7_9_11_0);
-    store64(a0 + 120, r7_9_12_0);
-    a0[128] = r7_9_13_0;
-    store64(a0 + 136, r7_9_15_0);
-    a0[144] = r7_9_16_0;
-    a0[145] = r7_9_17_0;
-    a0[146] = r7_9_18_0;
-    a0[147] = r7_9_19_0;
-    a0[148] = r7_9_20_0;
-    a0[160] = r7_11_0;
-    a0[161] = 1u;
-    a0[162] = 0u;
+    store64(a0 + 80, r1_30_0_83);
+    store64(a0 + 88, r1_32_0_72);
+    store64(a0 + 96, r1_34_0_73);
+    store64(a0 + 104, r1_35_0_74);
+    store64(a0 + 112, r1_36_0_75);
+    store64(a0 + 120, r1_37_0_76);
+    a0[128] = (uint8_t)!u128_eq(u128_and(r1_38_0_82_in_in_in, u128_of(0u, 12288u)), u128_of(0u, 0u));
+    store64(a0 + 136, r1_4021_0_81);
+    a0[144] = r1_42_0_80;
+    a0[145] = r1_44_0_79;
+    a0[146] = r1_46_0_r1_46_0_r1_46_16_71;
+    a0[147] = r1_51_0_78;
+    a0[148] = r1_53_0_77;
+    a0[160] = r1_5522_0_r1_5522_0_r1_5522_160_r0_6_160_70;
+    sink458 = 161u;
+    r7_3_0_ph_sink = 1u;
+    sink = 162u;
+    r7_6_0_ph_sink = 0u;
+    goto common_ret;
+}
+mmc_switch_widening_widen_1bed76fd314cf36e_exit_thread_2: {
+    r7_3_0_ph = 1u;
+    r7_6_0_ph = r1_8_0_ph;
+}
+arm_7: {
+    uint64_t r49 = r2_0263 + 1u;
+    if (r49 != a2) {
+        r2_0263 = r49;
+        goto join_5;
+    }
+    *a0 = 1u;
+    sink458 = 1u;
+    r7_3_0_ph_sink = r7_3_0_ph;
+    sink = 2u;
+    r7_6_0_ph_sink = r7_6_0_ph;
+}
+common_ret: {
+    *at(a0, sink458) = r7_3_0_ph_sink;
+    *at(a0, sink) = r7_6_0_ph_sink;
     return;
 }
 }
@@ -2486,8 +2206,8 @@ static void identification_identify(uint8_t *a0, uint8_t *a1)
     u128 r0_40_0;
     uint8_t r49_pn_ph;
     shared_go_idle(a1);
-    a1[88] = 0u;
-    a1[89] = 0u;
+    a1[96] = 0u;
+    a1[97] = 0u;
     host_ask(r1, a1, 8u, 426u);
     v0 = *r1 == 0u;
     if (!v0) {
@@ -2931,27 +2651,27 @@ static void HostBusBus_begin(uint8_t *a0, uint8_t *a1, uint8_t *a2, uint8_t a3, 
     memcpy(r3, a2, 6);
     command_read_command(r4, a2);
     if (*r4 != 1u) {
-        a1[180] = 1u;
+        a1[188] = 1u;
         r4_0_0 = 0u;
         goto mmc_host_host_bus_HostBus_carry_d568f3fc8d51bff2_exit;
     }
     uint8_t r13 = r4[4];
     uint32_t r16 = load32_aligned(r4 + 8);
-    memcpy(r5, a1 + 144, 36);
+    memcpy(r5, a1 + 152, 36);
     HostState_command(r3_2, r5, r13, r16, umax16(a4, 1u));
     if (r13 > 63u) {
         goto join_9;
     }
-    r23_not_3 = a1[152] == 0u;
+    r23_not_3 = a1[160] == 0u;
     if (!((r3_2[10] == 0u) || r23_not_3)) {
         goto join_9;
     }
     r1_0_0 = *r3_2;
-    spec_select = ((a1[147] & 1u) != 0) || (r1_0_0 == 0u);
-    r4_2_0 = a1[89];
-    uint8_t r5_0_0 = a1[90];
-    r5_2_0 = a1[91];
-    switch (a1[88]) {
+    spec_select = ((a1[155] & 1u) != 0) || (r1_0_0 == 0u);
+    r4_2_0 = a1[97];
+    uint8_t r5_0_0 = a1[98];
+    r5_2_0 = a1[99];
+    switch (a1[96]) {
     default: {
         trap();
         return;
@@ -2977,13 +2697,13 @@ after_2: {
 mmc_host_limits_limited_exit: {
     a1_2 = (uint8_t)((r4_2_0 == 0u) ? 0u : r5_2_0);
     r29 = (uint8_t)spec_select;
-    if (a1[146] != r29) {
+    if (a1[154] != r29) {
         goto then_2;
     }
-    if (r5_0_0_2 != a1[144]) {
+    if (r5_0_0_2 != a1[152]) {
         goto then_2;
     }
-    if ((a1_2 != a1[145]) && r23_not_3) {
+    if ((a1_2 != a1[153]) && r23_not_3) {
         goto then_5;
     }
     goto mmc_host_host_bus_HostBus_set_ios_d568f3fc8d51bff2_exit;
@@ -3002,10 +2722,10 @@ then_5: {
     *r12 = r5_0_0_2;
     r12[1] = a1_2;
     r12[2] = r29;
-    memcpy(a1 + 144, r12, 3);
+    memcpy(a1 + 152, r12, 3);
 }
 mmc_host_host_bus_HostBus_set_ios_d568f3fc8d51bff2_exit: {
-    r43 = (a1[148] & 1u) != 0;
+    r43 = (a1[156] & 1u) != 0;
     *r1 = r1_0_0;
     memcpy(r1 + 1, r3_2 + 1, 15);
     if (*a1 != 0u) {
@@ -3104,12 +2824,12 @@ c_host_way_WayHost_send_b4302b8119c90b07_exit: {
     memcpy(r3_10, r4_2 + 5, 3);
     r8_6_2_0 = load32_aligned(r4_2 + 8);
     r8_6_3_0 = load64(r4_2 + 12);
-    memcpy(r12_2, a1 + 144, 36);
+    memcpy(r12_2, a1 + 152, 36);
     *r13_2 = r1_0_0;
     memcpy(r13_2 + 1, r3_2 + 1, 15);
     bool v7 = r0_0_0 == 0u;
     HostState_sent(r11, r12_2, r13_2, v7);
-    memcpy(a1 + 144, r11, 36);
+    memcpy(a1 + 152, r11, 36);
     if (!(v7 && (r0_4_4 == 1u))) {
         goto mmc_host_host_bus_HostBus_send_d568f3fc8d51bff2_exit;
     }
@@ -3147,10 +2867,10 @@ then_1: {
     if (r4_3 == 0u) {
         goto c_host_way_WayHost_pause_b4302b8119c90b07_exit;
     }
-    store32_aligned(a1 + 68, common_ret_op);
+    store32_aligned(a1 + 72, common_ret_op);
 }
 c_host_way_WayHost_pause_b4302b8119c90b07_exit: {
-    store32_aligned(a1 + 176, common_ret_op);
+    store32_aligned(a1 + 184, common_ret_op);
 }
 mmc_host_host_bus_HostBus_send_d568f3fc8d51bff2_exit: {
     *r21 = r1_0_0;
@@ -3168,7 +2888,7 @@ mmc_host_host_bus_HostBus_send_d568f3fc8d51bff2_exit: {
     goto mmc_host_host_bus_HostBus_carry_d568f3fc8d51bff2_exit;
 }
 join_9: {
-    a1[180] = 1u;
+    a1[188] = 1u;
     r4_0_0 = 0u;
 }
 mmc_host_host_bus_HostBus_carry_d568f3fc8d51bff2_exit: {
@@ -3177,7 +2897,7 @@ mmc_host_host_bus_HostBus_carry_d568f3fc8d51bff2_exit: {
     r11_2[7] = a3;
     r11_2[8] = r4_0_0;
     memcpy(r11_2 + 9, r4_5, 17);
-    Wire_note(a1 + 88, r11_2);
+    Wire_note(a1 + 96, r11_2);
     *a0 = r4_0_0;
     memcpy(a0 + 1, r4_5, 17);
     return;
@@ -3411,15 +3131,15 @@ static void WayHost_set_ios(uint8_t *a0, uint8_t *a1)
         CFunctionsHost_set_ios(a0 + 4, r0);
         goto join_4;
     }
-    uint32_t r9 = load32_aligned(a0 + 76);
-    uint8_t r11 = a0[80];
+    uint32_t r9 = load32_aligned(a0 + 80);
+    uint8_t r11 = a0[84];
     bool v1 = r0_3_0 == 0u;
     StoryRegistersRegisters_write8(a0 + 4, 40u, (uint8_t)((uint8_t)(v1 ? 0u : 4u) | (uint8_t)((uint32_t)UINT32_C(0x200200) >> ((((uint32_t)r0_0_0 << 3u) & UINT32_C(0xffffff)) & 31u))));
     clock_set_clock(a0 + 4, r9, r11, ((r0_4_0 & 1u) != 0) ? UINT32_C(0x61a80) : (v1 ? UINT32_C(0x17d7840) : UINT32_C(0x2faf080)));
-    a0[36] = r0_0_0;
-    a0[37] = r0_3_0;
-    a0[38] = r0_4_0;
-    a0[72] = 1u;
+    a0[40] = r0_0_0;
+    a0[41] = r0_3_0;
+    a0[42] = r0_4_0;
+    a0[76] = 1u;
 join_4: {
     return;
 }
@@ -3553,16 +3273,16 @@ static void SdhciHost_send(uint8_t *a0, uint8_t *a1, uint8_t *a2)
     KELIFANDRO_ROOM uint8_t r3[20];
     KELIFANDRO_ROOM uint8_t r1[16];
     memcpy(r1, a2, 16);
-    store16_aligned(r5, (uint16_t)a1[40]);
-    store16_aligned(r5 + 2, load16(a1 + 42));
-    store16_aligned(r5 + 4, load16(a1 + 44));
+    store16_aligned(r5, (uint16_t)a1[44]);
+    store16_aligned(r5 + 2, load16(a1 + 46));
+    store16_aligned(r5 + 4, load16(a1 + 48));
     command_send(r3, a1, r5, r1, 0u);
     uint8_t v2 = *r3;
     uint8_t v3 = r3[1];
     uint8_t v4 = r3[4];
-    memcpy(r8, a1 + 32, 36);
+    memcpy(r8, a1 + 36, 36);
     HostState_sent(r7, r8, r1, v2 == 0u);
-    memcpy(a1 + 32, r7, 36);
+    memcpy(a1 + 36, r7, 36);
     *a0 = v2;
     a0[1] = v3;
     a0[4] = v4;
@@ -3575,11 +3295,12 @@ static void command_send(uint8_t *a0, uint8_t *a1, uint8_t *a2, uint8_t *a3, uin
 {
     uint8_t r8_0_0;
     uint8_t r8_3_0;
-    uint8_t r8_539_0;
+    uint8_t r8_540_0;
     bool not;
     uint32_t r10_0;
     uint32_t r59;
-    uint32_t r1_08;
+    uint32_t common_ret_op;
+    uint8_t r4_0_0;
     uint32_t r2_8_5_0;
     uint32_t r2_8_4_0;
     uint32_t r2_8_3_0;
@@ -3596,160 +3317,167 @@ static void command_send(uint8_t *a0, uint8_t *a1, uint8_t *a2, uint8_t *a3, uin
     uint8_t r2_6_0;
     uint8_t r2_4_0;
     uint8_t r2_0_0;
-    uint32_t common_ret_op_70;
-    uint8_t r4_0_0;
     uint64_t sink;
     uint8_t r2_20_0_sink;
     r8_0_0 = *a3;
-    uint32_t r8_238_0 = load32(a3 + 4);
+    uint32_t r8_239_0 = load32(a3 + 4);
     r8_3_0 = a3[8];
-    r8_539_0 = a3[10];
-    uint16_t r8_640_0 = load16(a3 + 12);
+    r8_540_0 = a3[10];
+    uint16_t r8_641_0 = load16(a3 + 12);
     uint16_t r8_7_0 = load16(a3 + 14);
     not = *a2 == 0u;
-    Stream_write_register(a1, 4u, 48u, not ? UINT32_C(0xffffffff) : UINT32_C(0xf0001));
-    switch (r8_539_0) {
+    Stream_write_register(a1, 4u, 48u, not ? UINT32_C(0xffffff3f) : UINT32_C(0xf0001));
+    switch (r8_540_0) {
     default: {
         trap();
         return;
     }
     case 0u: {
-        Stream_write_register(a1, 4u, 8u, r8_238_0);
+        Stream_write_register(a1, 4u, 8u, r8_239_0);
         r10_0 = 0u;
         goto switch_lookup;
     }
     case 2u: {
-        Stream_write_register(a1, 4u, 4u, (uint32_t)((uint32_t)r8_640_0 << 16u) | 29184u);
-        Stream_write_register(a1, 4u, 8u, r8_238_0);
-        r10_0 = (r8_640_0 == 1u) ? 0u : 34u;
+        Stream_write_register(a1, 4u, 4u, (uint32_t)((uint32_t)r8_641_0 << 16u) | 29184u);
+        Stream_write_register(a1, 4u, 8u, r8_239_0);
+        r10_0 = (r8_641_0 == 1u) ? 0u : 34u;
         goto switch_lookup;
     }
     case 1u: {
-        Stream_write_register(a1, 4u, 4u, (uint32_t)((uint32_t)r8_640_0 + 28672u) + ((uint32_t)r8_7_0 << 16u));
-        Stream_write_register(a1, 4u, 8u, r8_238_0);
+        Stream_write_register(a1, 4u, 4u, (uint32_t)((uint32_t)r8_641_0 + 28672u) + ((uint32_t)r8_7_0 << 16u));
+        Stream_write_register(a1, 4u, 8u, r8_239_0);
         r10_0 = (r8_7_0 == 1u) ? 16u : 50u;
         goto switch_lookup;
     }
     }
 switch_lookup: {
-    uint32_t r56 = (r10_0 | (uint32_t)a4) | (((r8_539_0 == 0u) ? 0u : UINT32_C(0x200000)) | ((uint32_t)((uint32_t)r8_0_0 << 24u) | ((r8_0_0 == 12u) ? UINT32_C(0xc00000) : 0u)));
+    uint32_t r56 = (r10_0 | (uint32_t)a4) | (((r8_540_0 == 0u) ? 0u : UINT32_C(0x200000)) | ((uint32_t)((uint32_t)r8_0_0 << 24u) | ((r8_0_0 == 12u) ? UINT32_C(0xc00000) : 0u)));
     r59 = r56 + load32_aligned(at((uint8_t *)bytes_command_send, (uint64_t)r8_3_0 * 4u));
     switch ((uint8_t)((uint8_t)(r59 >> 24u) & 63u)) {
     default: {
         goto after_1;
     }
     case 1u: {
-        if ((a1[21] & 1u) != 0) {
+        if ((a1[27] & 1u) != 0) {
             goto after_1;
         }
-        goto join_5_preheader;
+        goto sdhci_story_registers_StoryRegistersRegisters_write32_52343085cde207f1_exit;
     }
     case 41u: {
-        if ((a1[20] & 1u) != 0) {
+        if ((a1[26] & 1u) != 0) {
             goto after_1;
         }
-        goto join_5_preheader;
+        goto sdhci_story_registers_StoryRegistersRegisters_write32_52343085cde207f1_exit;
     }
     }
 }
 after_1: {
     Stream_write_register(a1, 4u, 12u, r59);
 }
-join_5_preheader: {
-    r1_08 = 0u;
+sdhci_story_registers_StoryRegistersRegisters_write32_52343085cde207f1_exit: {
+    if (!((a1[18] & 1u) != 0)) {
+        uint32_t r23 = command_look(a1, 1000u);
+        common_ret_op = r23;
+        goto mmc_sdhci_command_wait_d002fd087b3dc1c2_exit;
+    }
+    uint32_t r26 = command_look(a1, 3u);
+    if (r26 != 0u) {
+        common_ret_op = r26;
+        goto mmc_sdhci_command_wait_d002fd087b3dc1c2_exit;
+    }
+    StoryRegistersRegisters_wait(a1, UINT32_C(0xf0001), 10000u);
+    uint32_t r6_6 = Stream_read_register(a1, 4u, 48u);
+    common_ret_op = ((r6_6 & UINT32_C(0xf0001)) == 0u) ? 0u : r6_6;
 }
-join_5: {
-    uint32_t r6_7 = Stream_read_register(a1, 4u, 48u);
-    switch (r6_7 & UINT32_C(0xf0001)) {
+mmc_sdhci_command_wait_d002fd087b3dc1c2_exit: {
+    if (!((common_ret_op & UINT32_C(0xf0001)) == 1u)) {
+        command_reset_command(a1);
+        command_reset_data(a1);
+        if (!((common_ret_op & UINT32_C(0x20000)) == 0u)) {
+            r4_0_0 = 1u;
+            goto mmc_sdhci_command_fault_in_exit;
+        }
+        r4_0_0 = (uint8_t)(((common_ret_op & UINT32_C(0x40000)) == 0u) ? (uint8_t)(((common_ret_op & UINT32_C(0x80000)) == 0u) ? 0u : 3u) : 2u);
+        goto mmc_sdhci_command_fault_in_exit;
+    }
+    switch (r8_3_0) {
     default: {
-        common_ret_op_70 = r6_7;
-        goto join_5_2;
+        trap();
+        return;
     }
     case 0u: {
-        Stream_pause(a1, 10u);
-        uint32_t r41 = r1_08 + 1u;
-        if (r41 == 1000u) {
-            common_ret_op_70 = 0u;
-            goto join_5_2;
-        }
-        r1_08 = r41;
-        goto join_5;
+        r2_8_5_0 = 0u;
+        r2_8_4_0 = 0u;
+        r2_8_3_0 = 0u;
+        r2_8_0_0 = 0u;
+        r2_20_0 = 0u; /* any */
+        r2_19_0 = 0u; /* any */
+        r2_18_0 = 0u; /* any */
+        r2_17_0 = 0u; /* any */
+        r2_16_0 = 0u; /* any */
+        r2_15_0 = 0u; /* any */
+        r2_14_0 = 0u; /* any */
+        r2_13_0 = 0u; /* any */
+        r2_7_0 = 0u; /* any */
+        r2_6_0 = 0u; /* any */
+        r2_4_0 = 0u; /* any */
+        r2_0_0 = r8_3_0;
+        goto mmc_sdhci_command_hear_d002fd087b3dc1c2_exit;
     }
-    case 1u: {
-        switch (r8_3_0) {
-        default: {
-            trap();
-            return;
-        }
-        case 0u: {
-            r2_8_5_0 = 0u;
-            r2_8_4_0 = 0u;
-            r2_8_3_0 = 0u;
-            r2_8_0_0 = 0u;
-            r2_20_0 = 0u; /* any */
-            r2_19_0 = 0u; /* any */
-            r2_18_0 = 0u; /* any */
-            r2_17_0 = 0u; /* any */
-            r2_16_0 = 0u; /* any */
-            r2_15_0 = 0u; /* any */
-            r2_14_0 = 0u; /* any */
-            r2_13_0 = 0u; /* any */
-            r2_7_0 = 0u; /* any */
-            r2_6_0 = 0u; /* any */
-            r2_4_0 = 0u; /* any */
-            r2_0_0 = r8_3_0;
-            goto mmc_sdhci_command_hear_d002fd087b3dc1c2_exit;
-        }
-        case 3u: {
-            uint32_t r6 = Stream_read_register(a1, 4u, 28u);
-            uint32_t r6_4 = Stream_read_register(a1, 4u, 24u);
-            uint32_t r6_5 = Stream_read_register(a1, 4u, 20u);
-            uint32_t r6_6 = Stream_read_register(a1, 4u, 16u);
-            r2_8_5_0 = r6_4 & 255u;
-            r2_8_4_0 = r6_4 >> 8u;
-            r2_8_3_0 = r6_4 >> 16u;
-            r2_8_0_0 = r6_4 >> 24u;
-            r2_20_0 = (uint8_t)r6_6;
-            r2_19_0 = (uint8_t)(r6_6 >> 8u);
-            r2_18_0 = (uint8_t)(r6_6 >> 16u);
-            r2_17_0 = (uint8_t)(r6_6 >> 24u);
-            r2_16_0 = (uint8_t)r6_5;
-            r2_15_0 = (uint8_t)(r6_5 >> 8u);
-            r2_14_0 = (uint8_t)(r6_5 >> 16u);
-            r2_13_0 = (uint8_t)(r6_5 >> 24u);
-            r2_7_0 = (uint8_t)r6;
-            r2_6_0 = (uint8_t)(r6 >> 8u);
-            r2_4_0 = (uint8_t)(r6 >> 16u);
-            r2_0_0 = 2u;
-            goto mmc_sdhci_command_hear_d002fd087b3dc1c2_exit;
-        }
-        case 1u:
-        case 2u:
-        case 4u:
-        case 5u:
-        case 6u: {
-            uint32_t r6_2 = Stream_read_register(a1, 4u, 16u);
-            r2_8_5_0 = r6_2 >> 24u;
-            r2_8_4_0 = r6_2 >> 16u;
-            r2_8_3_0 = r6_2 >> 8u;
-            r2_8_0_0 = r6_2 & 255u;
-            r2_20_0 = 0u; /* any */
-            r2_19_0 = 0u; /* any */
-            r2_18_0 = 0u; /* any */
-            r2_17_0 = 0u; /* any */
-            r2_16_0 = 0u; /* any */
-            r2_15_0 = 0u; /* any */
-            r2_14_0 = 0u; /* any */
-            r2_13_0 = 0u; /* any */
-            r2_7_0 = 0u; /* any */
-            r2_6_0 = 0u; /* any */
-            r2_4_0 = 0u; /* any */
-            r2_0_0 = 1u;
-            goto mmc_sdhci_command_hear_d002fd087b3dc1c2_exit;
-        }
-        }
+    case 3u: {
+        uint32_t r6 = Stream_read_register(a1, 4u, 28u);
+        uint32_t r6_4 = Stream_read_register(a1, 4u, 24u);
+        uint32_t r6_5 = Stream_read_register(a1, 4u, 20u);
+        uint32_t r6_6_2 = Stream_read_register(a1, 4u, 16u);
+        r2_8_5_0 = r6_4 & 255u;
+        r2_8_4_0 = r6_4 >> 8u;
+        r2_8_3_0 = r6_4 >> 16u;
+        r2_8_0_0 = r6_4 >> 24u;
+        r2_20_0 = (uint8_t)r6_6_2;
+        r2_19_0 = (uint8_t)(r6_6_2 >> 8u);
+        r2_18_0 = (uint8_t)(r6_6_2 >> 16u);
+        r2_17_0 = (uint8_t)(r6_6_2 >> 24u);
+        r2_16_0 = (uint8_t)r6_5;
+        r2_15_0 = (uint8_t)(r6_5 >> 8u);
+        r2_14_0 = (uint8_t)(r6_5 >> 16u);
+        r2_13_0 = (uint8_t)(r6_5 >> 24u);
+        r2_7_0 = (uint8_t)r6;
+        r2_6_0 = (uint8_t)(r6 >> 8u);
+        r2_4_0 = (uint8_t)(r6 >> 16u);
+        r2_0_0 = 2u;
+        goto mmc_sdhci_command_hear_d002fd087b3dc1c2_exit;
+    }
+    case 1u:
+    case 2u:
+    case 4u:
+    case 5u:
+    case 6u: {
+        uint32_t r6_2 = Stream_read_register(a1, 4u, 16u);
+        r2_8_5_0 = r6_2 >> 24u;
+        r2_8_4_0 = r6_2 >> 16u;
+        r2_8_3_0 = r6_2 >> 8u;
+        r2_8_0_0 = r6_2 & 255u;
+        r2_20_0 = 0u; /* any */
+        r2_19_0 = 0u; /* any */
+        r2_18_0 = 0u; /* any */
+        r2_17_0 = 0u; /* any */
+        r2_16_0 = 0u; /* any */
+        r2_15_0 = 0u; /* any */
+        r2_14_0 = 0u; /* any */
+        r2_13_0 = 0u; /* any */
+        r2_7_0 = 0u; /* any */
+        r2_6_0 = 0u; /* any */
+        r2_4_0 = 0u; /* any */
+        r2_0_0 = 1u;
+        goto mmc_sdhci_command_hear_d002fd087b3dc1c2_exit;
     }
     }
+}
+mmc_sdhci_command_fault_in_exit: {
+    *a0 = 1u;
+    sink = 1u;
+    r2_20_0_sink = r4_0_0;
+    goto common_ret;
 }
 mmc_sdhci_command_hear_d002fd087b3dc1c2_exit: {
     uint32_t r2_8_0_0_insert_insert = ((((r2_8_4_0 << 16u) & UINT32_C(0xff0000)) | (r2_8_5_0 << 24u)) | ((uint32_t)(r2_8_3_0 << 8u) & 65280u)) | r2_8_0_0;
@@ -3787,26 +3515,51 @@ mmc_sdhci_command_hear_d002fd087b3dc1c2_exit: {
     a0[18] = r2_19_0;
     sink = 19u;
     r2_20_0_sink = r2_20_0;
-    goto common_ret;
-}
-join_5_2: {
-    command_reset_command(a1);
-    command_reset_data(a1);
-    if (!((common_ret_op_70 & UINT32_C(0x20000)) == 0u)) {
-        r4_0_0 = 1u;
-        goto mmc_sdhci_command_fault_in_exit;
-    }
-    r4_0_0 = (uint8_t)(((common_ret_op_70 & UINT32_C(0x40000)) == 0u) ? (uint8_t)(((common_ret_op_70 & UINT32_C(0x80000)) == 0u) ? 0u : 3u) : 2u);
-}
-mmc_sdhci_command_fault_in_exit: {
-    *a0 = 1u;
-    sink = 1u;
-    r2_20_0_sink = r4_0_0;
 }
 common_ret: {
     *at(a0, sink) = r2_20_0_sink;
     return;
 }
+}
+
+/* mmc_sdhci::command::look::<#d002fd087b3dc1c2> */
+static uint32_t command_look(uint8_t *a0, uint32_t a1)
+{
+    uint32_t r1_05;
+    uint32_t common_ret_op;
+    r1_05 = 0u;
+join_5: {
+    uint32_t r6_4 = Stream_read_register(a0, 4u, 48u);
+    if (!((r6_4 & UINT32_C(0xf0001)) == 0u)) {
+        common_ret_op = r6_4;
+        goto common_ret;
+    }
+    Stream_pause(a0, 10u);
+    uint32_t r23 = r1_05 + 1u;
+    if (r23 == a1) {
+        common_ret_op = 0u;
+        goto common_ret;
+    }
+    r1_05 = r23;
+    goto join_5;
+}
+common_ret: {
+    return common_ret_op;
+}
+}
+
+/* sdhci_story::registers::StoryRegistersRegisters::wait::<#52343085cde207f1> */
+static void StoryRegistersRegisters_wait(uint8_t *a0, uint32_t a1, uint32_t a2)
+{
+    KELIFANDRO_ROOM uint8_t r2[9];
+    *r2 = 19u;
+    store32(r2 + 1, a1);
+    r2[5] = (uint8_t)a2;
+    r2[6] = (uint8_t)(a2 >> 8u);
+    r2[7] = (uint8_t)(a2 >> 16u);
+    r2[8] = 0u;
+    io_write_all(load32_aligned(a0), r2, 9u);
+    return;
 }
 
 /* mmc_host::told::HostState::sent */
@@ -4353,11 +4106,12 @@ static bool host_poll(uint8_t *a0)
     uint8_t *const r5 = room + 8;
     bool v0;
     uint32_t r5_0;
-    uint32_t r10;
-    uint32_t r0_05;
+    bool r3;
+    uint32_t r1_011;
+    uint32_t r9_0;
     bool r6_0_in;
     v0 = *a0 == 0u;
-    switch (a0[160]) {
+    switch (a0[168]) {
     default: {
         trap();
         return 0;
@@ -4372,14 +4126,14 @@ static bool host_poll(uint8_t *a0)
         goto mmc_host_work_Work_micros_exit;
     }
     case 3u: {
-        r5_0 = (uint32_t)umin64((uint64_t)load32(a0 + 164) * 16000u, UINT64_C(0x350c1400)) + UINT32_C(0x98d500);
+        r5_0 = (uint32_t)umin64((uint64_t)load32(a0 + 172) * 16000u, UINT64_C(0x350c1400)) + UINT32_C(0x98d500);
         goto mmc_host_work_Work_micros_exit;
     }
     }
 mmc_host_work_Work_micros_exit: {
     if (!v0) {
-        r10 = r5_0 / 10u;
-        r0_05 = 0u;
+        r3 = (a0[22] & 1u) != 0;
+        r1_011 = r5_0;
         goto join_5;
     }
     store32_aligned(r5, 0u);
@@ -4395,13 +4149,20 @@ join_5: {
     if (!((r6 & UINT32_C(0x100000)) == 0u)) {
         goto mmc_sdhci_sdhci_SdhciHost_is_busy_d002fd087b3dc1c2_exit;
     }
-    Stream_pause(a0 + 4, 10u);
-    uint32_t r30 = r0_05 + 1u;
-    if (r30 != r10) {
-        r0_05 = r30;
+    if (!r3) {
+        r9_0 = 10u;
+        goto join_11;
+    }
+    r9_0 = umin32(umin32(umax32((r5_0 - r1_011) >> 2u, 10u), r1_011), 1000u);
+}
+join_11: {
+    Stream_pause(a0 + 4, r9_0);
+    uint32_t r50 = r1_011 - r9_0;
+    if (r50 > 9u) {
+        r1_011 = r50;
         goto join_5;
     }
-    Stream_pause(a0 + 4, (r10 * UINT32_C(0xfffffff6)) + r5_0);
+    Stream_pause(a0 + 4, r50);
 }
 mmc_sdhci_sdhci_SdhciHost_is_busy_d002fd087b3dc1c2_exit: {
     uint8_t r8 = StoryRegistersRegisters_read8(a0 + 4, 38u);
@@ -4410,7 +4171,7 @@ mmc_sdhci_sdhci_SdhciHost_is_busy_d002fd087b3dc1c2_exit: {
 mmc_host_host_bus_HostBusBus_busy_d568f3fc8d51bff2_exit: {
     *r4 = 3u;
     r4[1] = (uint8_t)r6_0_in;
-    Wire_note(a0 + 88, r4);
+    Wire_note(a0 + 96, r4);
     return r6_0_in;
 }
 }
@@ -4465,13 +4226,13 @@ static uint8_t data_receive(uint8_t *a0, uint8_t *a1, uint64_t a2)
     KELIFANDRO_ROOM uint8_t r13[36];
     uint8_t r5_0_0;
     uint8_t r0_0_0;
-    if (a0[144] != a0[88]) {
+    if (a0[152] != a0[96]) {
         goto then_1;
     }
-    if (a0[145] != a0[89]) {
+    if (a0[153] != a0[97]) {
         goto then_1;
     }
-    if (!((a0[152] == 1u) && (a2 == (uint64_t)load16(a0 + 154)))) {
+    if (!((a0[160] == 1u) && (a2 == (uint64_t)load16(a0 + 162)))) {
         goto then_1;
     }
     if (*a0 != 0u) {
@@ -4483,21 +4244,21 @@ static uint8_t data_receive(uint8_t *a0, uint8_t *a1, uint64_t a2)
     r5_0_0 = (uint8_t)((r25 == a2) ? 0u : (uint8_t)((r25 == 0u) ? 2u : 1u));
     goto c_host_way_WayHost_read_block_b4302b8119c90b07_exit;
 then_1: {
-    a0[180] = 1u;
+    a0[188] = 1u;
     r0_0_0 = 2u;
     goto mmc_bus_host_read_block_1bed76fd314cf36e_exit;
 }
 c_host_way_WayHost_read_block_b4302b8119c90b07_exit: {
-    memcpy(r13, a0 + 144, 36);
+    memcpy(r13, a0 + 152, 36);
     HostState_block_passed(r12, r13, r5_0_0 == 0u);
-    memcpy(a0 + 144, r12, 36);
+    memcpy(a0 + 152, r12, 36);
     r0_0_0 = r5_0_0;
 }
 mmc_bus_host_read_block_1bed76fd314cf36e_exit: {
     *r9 = 1u;
     store64_aligned(r9 + 8, a2);
     r9[16] = r0_0_0;
-    Wire_note(a0 + 88, r9);
+    Wire_note(a0 + 96, r9);
     return (uint8_t)(r0_0_0 != 0u);
 }
 }
@@ -4514,9 +4275,9 @@ static uint8_t SdhciHost_read_block(uint8_t *a0, uint8_t *a1, uint64_t a2)
     bool r10_0_0_shrunk;
     uint8_t r0_0_0_2;
     uint8_t r0_0_0;
-    uint8_t r16 = a0[40];
-    uint16_t v0 = load16(a0 + 42);
-    uint16_t v1 = load16(a0 + 44);
+    uint8_t r16 = a0[44];
+    uint16_t v0 = load16(a0 + 46);
+    uint16_t v1 = load16(a0 + 48);
     watching_watch(r11, a0, 0u, 0u);
     if (*r11 != 1u) {
         command_reset_data(a0);
@@ -4570,9 +4331,9 @@ mmc_sdhci_data_see_good_d002fd087b3dc1c2_exit: {
     r0_0_0 = r0_0_0_2;
 }
 mmc_sdhci_data_read_block_d002fd087b3dc1c2_exit: {
-    memcpy(r10, a0 + 32, 36);
+    memcpy(r10, a0 + 36, 36);
     HostState_block_passed(r9, r10, r0_0_0 == 0u);
-    memcpy(a0 + 32, r9, 36);
+    memcpy(a0 + 36, r9, 36);
     return r0_0_0;
 }
 }
@@ -4580,65 +4341,155 @@ mmc_sdhci_data_read_block_d002fd087b3dc1c2_exit: {
 /* mmc_sdhci::watching::watch::<#d002fd087b3dc1c2> */
 static void watching_watch(uint8_t *a0, uint8_t *a1, uint8_t a2, uint8_t a3)
 {
-    uint32_t v;
-    uint8_t r6_0_in_off0_in_v;
-    bool v0;
-    uint32_t r3_016;
-    uint32_t r6_6;
-    bool r6_0_in_off0_lcssa;
-    bool switch_2 = a2 < 2u;
-    v = switch_2 ? 2980u : 10980u;
-    r6_0_in_off0_in_v = (uint8_t)(switch_2 ? 8u : 4u);
-    v0 = a3 == 0u;
-    r3_016 = 0u;
-join_5: {
-    uint8_t r14 = StoryRegistersRegisters_read8(a1, 37u);
-    bool r6_0_in_off0 = (uint8_t)(r14 & r6_0_in_off0_in_v) != 0u;
-    r6_6 = Stream_read_register(a1, 4u, 48u);
-    if (!((uint32_t)(r6_6 & 32768u) == 0u)) {
-        r6_0_in_off0_lcssa = r6_0_in_off0;
-        goto then_6;
+    KELIFANDRO_ROOM uint8_t room[12];
+    uint8_t *const r0_2 = room;
+    uint8_t *const r8 = room;
+    uint8_t *const r0 = room;
+    uint8_t *const r9 = room;
+    uint32_t r6_0;
+    uint64_t v8;
+    uint32_t r49;
+    if (!((a1[18] & 1u) != 0)) {
+        watching_look_often(r0, a1, a2, a3, (a2 < 2u) ? 2980u : 10980u);
+        store32(a0, (uint32_t)*r0);
+        store64(a0 + 4, load64(r0 + 4));
+        goto common_ret;
+    }
+    watching_look_often(r9, a1, a2, a3, 2u);
+    if (*r9 == 1u) {
+        uint64_t r3_0_0 = load64(r9 + 4);
+        store32(a0, 1u);
+        store64(a0 + 4, r3_0_0);
+        goto common_ret;
+    }
+    Stream_write_register(a1, 4u, 48u, 48u);
+    watching_look_often(r8, a1, a2, a3, 1u);
+    if (*r8 == 1u) {
+        v8 = load64(r8 + 4);
+        r49 = 1u;
+        goto mmc_sdhci_watching_wait_d002fd087b3dc1c2_exit;
     }
     switch (a2) {
     default: {
         trap();
         return;
     }
-    case 0u:
+    case 0u: {
+        r6_0 = 32u;
+        goto mmc_sdhci_watching_Sought_interrupts_exit;
+    }
+    case 1u: {
+        r6_0 = (a3 == 0u) ? 2u : 32u;
+        goto mmc_sdhci_watching_Sought_interrupts_exit;
+    }
     case 2u: {
-        if (r6_0_in_off0) {
-            r6_0_in_off0_lcssa = true;
-            goto then_6;
-        }
-        goto join_8;
+        r6_0 = 16u;
+        goto mmc_sdhci_watching_Sought_interrupts_exit;
     }
-    case 1u:
     case 3u: {
-        if (v0 ? ((uint32_t)(r6_6 & 2u) != 0u) : r6_0_in_off0) {
-            r6_0_in_off0_lcssa = r6_0_in_off0;
-            goto then_6;
-        }
-        goto join_8;
+        r6_0 = (a3 == 0u) ? 2u : 16u;
+        goto mmc_sdhci_watching_Sought_interrupts_exit;
     }
     }
+mmc_sdhci_watching_Sought_interrupts_exit: {
+    uint32_t r16 = r6_0 | UINT32_C(0x7f0000);
+    bool switch_2 = a2 < 2u;
+    StoryRegistersRegisters_wait(a1, r16, switch_2 ? UINT32_C(0x186a0) : UINT32_C(0x7a120));
+    struct of_i8_i32 r44 = watching_look(a1, a2);
+    uint8_t r45 = r44.f0;
+    uint32_t r46 = r44.f1;
+    bool r54 = Sought_is_over(a2, a3, r45, r46);
+    if (r54) {
+        r0_2[4] = r45;
+        store32_aligned(r0_2 + 8, r46);
+        v8 = load64(r0_2 + 4);
+        r49 = 1u;
+        goto mmc_sdhci_watching_wait_d002fd087b3dc1c2_exit;
+    }
+    if ((r46 & r16) == 0u) {
+        v8 = 0u; /* any */
+        r49 = 0u;
+        goto mmc_sdhci_watching_wait_d002fd087b3dc1c2_exit;
+    }
+    watching_look_often(r0_2, a1, a2, a3, switch_2 ? 2980u : 10980u);
+    v8 = load64(r0_2 + 4);
+    r49 = (uint32_t)*r0_2;
 }
-join_8: {
-    Stream_pause(a1, (r3_016 < 1000u) ? 1u : 50u);
-    uint32_t r49 = r3_016 + 1u;
-    if (r49 != v) {
-        r3_016 = r49;
-        goto join_5;
-    }
-    store32(a0, 0u);
-    goto common_ret;
-}
-then_6: {
-    store32(a0, 1u);
-    a0[4] = (uint8_t)r6_0_in_off0_lcssa;
-    store32(a0 + 8, r6_6);
+mmc_sdhci_watching_wait_d002fd087b3dc1c2_exit: {
+    store32(a0, r49);
+    store64(a0 + 4, v8);
 }
 common_ret: {
     return;
+}
+}
+
+/* mmc_sdhci::watching::look_often::<#d002fd087b3dc1c2> */
+static void watching_look_often(uint8_t *a0, uint8_t *a1, uint8_t a2, uint8_t a3, uint32_t a4)
+{
+    uint32_t r3_09;
+    r3_09 = 0u;
+join_5: {
+    struct of_i8_i32 r19 = watching_look(a1, a2);
+    uint8_t r20 = r19.f0;
+    uint32_t r21 = r19.f1;
+    bool r29 = Sought_is_over(a2, a3, r20, r21);
+    if (r29) {
+        store32(a0, 1u);
+        a0[4] = r20;
+        store32(a0 + 8, r21);
+        goto common_ret;
+    }
+    Stream_pause(a1, (r3_09 < 1000u) ? 1u : 50u);
+    uint32_t r43 = r3_09 + 1u;
+    if (r43 != a4) {
+        r3_09 = r43;
+        goto join_5;
+    }
+    store32(a0, 0u);
+}
+common_ret: {
+    return;
+}
+}
+
+/* mmc_sdhci::watching::look::<#d002fd087b3dc1c2> */
+static struct of_i8_i32 watching_look(uint8_t *a0, uint8_t a1)
+{
+    uint8_t r14 = StoryRegistersRegisters_read8(a0, 37u);
+    uint8_t r32 = (uint8_t)((uint8_t)(r14 & (uint8_t)((a1 < 2u) ? 8u : 4u)) != 0u);
+    uint32_t r6_6 = Stream_read_register(a0, 4u, 48u);
+    struct of_i8_i32 r40_fca_0_insert = (struct of_i8_i32){r32, 0};
+    struct of_i8_i32 r40_fca_1_insert = (struct of_i8_i32){r40_fca_0_insert.f0, r6_6};
+    return r40_fca_1_insert;
+}
+
+/* mmc_sdhci::watching::Sought::is_over */
+static bool Sought_is_over(uint8_t a0, uint8_t a1, uint8_t a2, uint32_t a3)
+{
+    bool r5_0_in;
+    if (!((uint32_t)(a3 & 32768u) == 0u)) {
+        r5_0_in = true;
+        goto join_3;
+    }
+    switch (a0) {
+    default: {
+        trap();
+        return 0;
+    }
+    case 0u:
+    case 2u: {
+        r5_0_in = (a2 & 1u) != 0;
+        goto join_3;
+    }
+    case 1u:
+    case 3u: {
+        r5_0_in = (a1 == 0u) ? ((uint32_t)(a3 & 2u) != 0u) : ((a2 & 1u) != 0);
+        goto join_3;
+    }
+    }
+join_3: {
+    return r5_0_in;
 }
 }
 
@@ -4965,17 +4816,17 @@ static void u128_to_be_bytes(uint8_t *a0, u128 a1)
 /* kelifandro::hosts::end::<#fb070baa9c134c3e> */
 static void hosts_end(uint8_t *a0, bool a2)
 {
-    KELIFANDRO_ROOM uint8_t r7[84];
+    KELIFANDRO_ROOM uint8_t r7[88];
     if (*a0 == 0u) {
         goto join_4;
     }
-    memcpy(r7, a0 + 4, 84);
-    if (!(a2 || (r7[40] != 0u))) {
+    memcpy(r7, a0 + 4, 88);
+    if (!(a2 || (r7[44] != 0u))) {
         goto mmc_sdhci_sdhci_Sdhci_end_d002fd087b3dc1c2_exit;
     }
     command_lose_all(r7);
 mmc_sdhci_sdhci_Sdhci_end_d002fd087b3dc1c2_exit: {
-    store16_aligned(r7 + 40, 0u);
+    store16_aligned(r7 + 44, 0u);
     CRegisters_give_back(r7);
 }
 join_4: {
@@ -4987,13 +4838,13 @@ join_4: {
 static void CRegisters_give_back(uint8_t *a0)
 {
     KELIFANDRO_ROOM uint8_t r3[6];
-    if (a0[22] != 1u) {
+    if (a0[28] != 1u) {
         goto join_4;
     }
-    uint8_t r0_0_0 = a0[24];
-    uint8_t r0_2_0 = a0[25];
-    uint8_t r0_3_0 = a0[26];
-    uint16_t r0_41_0 = load16(a0 + 28);
+    uint8_t r0_0_0 = a0[30];
+    uint8_t r0_2_0 = a0[31];
+    uint8_t r0_3_0 = a0[32];
+    uint16_t r0_41_0 = load16(a0 + 34);
     *r3 = 17u;
     r3[1] = (uint8_t)(r0_0_0 & 1u);
     r3[2] = r0_2_0;
@@ -5001,7 +4852,7 @@ static void CRegisters_give_back(uint8_t *a0)
     r3[4] = (uint8_t)r0_41_0;
     r3[5] = (uint8_t)(uint16_t)((uint32_t)r0_41_0 >> 8u);
     io_write_all(load32_aligned(a0), r3, 6u);
-    store16_aligned(a0 + 22, 0u);
+    store16_aligned(a0 + 28, 0u);
 join_4: {
     return;
 }
@@ -5020,12 +4871,12 @@ static uint32_t requests_serve_told(uint8_t *a0, uint8_t *a1, uint8_t *a2, uint8
     uint8_t *const r3 = room;
     uint8_t *const r15 = room;
     uint8_t *const r7 = room;
-    uint8_t *const r20 = room + 88;
-    uint8_t *const r14_15_2_20 = room + 88;
-    uint8_t *const r14_15_2_9 = room + 112;
-    uint8_t *const r14_15_2_5 = room + 128;
-    uint8_t *const r14_15_2_18 = room + 136;
-    uint8_t *const r14_15_2_26 = room + 144;
+    uint8_t *const r20 = room + 96;
+    uint8_t *const r14_15_2_9 = room + 96;
+    uint8_t *const r14_15_2_20 = room + 120;
+    uint8_t *const r14_15_2_5 = room + 144;
+    uint8_t *const r14_15_2_18 = room + 152;
+    uint8_t *const r14_15_2_26 = room + 160;
     uint8_t *const r3_31 = room + 192;
     uint8_t *const r14_2 = room + 192;
     uint8_t *const r27 = room + 192;
@@ -5034,11 +4885,11 @@ static uint32_t requests_serve_told(uint8_t *a0, uint8_t *a1, uint8_t *a2, uint8
     uint8_t *const r31_17 = room + 208;
     uint8_t *const r14 = room + 208;
     uint8_t *const r7_7_6 = room + 384;
-    KELIFANDRO_ROOM uint8_t room_2[184];
+    KELIFANDRO_ROOM uint8_t room_2[192];
     uint8_t *const r14_7 = room_2;
-    uint8_t *const r21_15 = room_2;
-    uint8_t *const r23_6_8_0 = room_2 + 24;
-    uint8_t *const r23_6_4 = room_2 + 40;
+    uint8_t *const r23_6_8_0 = room_2;
+    uint8_t *const r21_15 = room_2 + 24;
+    uint8_t *const r23_6_4 = room_2 + 48;
     KELIFANDRO_ROOM uint8_t r7_0[144];
     KELIFANDRO_ROOM uint8_t room_3[144];
     uint8_t *const r31_4_3 = room_3;
@@ -5089,7 +4940,7 @@ static uint32_t requests_serve_told(uint8_t *a0, uint8_t *a1, uint8_t *a2, uint8
     uint8_t r31_11_0;
     uint8_t r31_14_0;
     uint8_t r31_18_0;
-    uint8_t r11_pn_49;
+    uint8_t r11_pn_50;
     uint32_t r11_0;
     r9_0_0 = *a3;
     r10_0_0 = a3[1];
@@ -5136,7 +4987,7 @@ static uint32_t requests_serve_told(uint8_t *a0, uint8_t *a1, uint8_t *a2, uint8
     uint8_t r5_9_732_0 = r14[16];
     uint8_t r5_9_8_0 = r14[17];
     uint16_t r5_9_9_0 = load16_aligned(r14 + 18);
-    uint8_t r5_8 = a0[11];
+    uint8_t r5_8 = a0[15];
     uint32_t r6 = CRegistersRegisters_read32(r14 + 4, 64u);
     uint8_t r28 = StoryRegistersRegisters_read8(r14 + 4, 254u);
     uint32_t r8 = (uint32_t)(r6 >> 8u) & 255u;
@@ -5148,7 +4999,7 @@ static uint32_t requests_serve_told(uint8_t *a0, uint8_t *a1, uint8_t *a2, uint8
     uint8_t r7_0_0 = (uint8_t)((uint8_t)(r6 >> 21u) & 1u);
     memset(r21_15 + 4, 0u, 13);
     memcpy(r23_6_4, r14 + 10, 6);
-    memcpy(r23_6_8_0, r14 + 20, 16);
+    memcpy(r23_6_8_0, r14 + 20, 20);
     r0_0_0_pn = spec_select;
     r0_2_0_pn = r7_0_0;
     r15_6_8_0_ph = r5_9_9_0;
@@ -5175,14 +5026,14 @@ arm_5: {
     memcpy(r11 + 149, r7 + 165, 43);
     struct of_i8_i8 r11_17 = rules_sectors_refusal(65535u, r9_0_0, r11 + 16, r10_0_0, r33, (r9_0_0 < 2u) ? a5 : r35);
     if (r11_17.f0 == 1u) {
-        r11_pn_49 = r11_17.f1;
+        r11_pn_50 = r11_17.f1;
         goto arm_1_11;
     }
     if ((r11[128] & 1u) != 0) {
         if (r9_0_0 == 0u) {
             goto join_4;
         }
-        r11_pn_49 = 4u;
+        r11_pn_50 = 4u;
         goto arm_1_11;
     }
     switch (r9_0_0) {
@@ -5202,7 +5053,7 @@ arm_5: {
             return 0;
         }
         if ((r33 % r18) != 0u) {
-            r11_pn_49 = (uint8_t)(((uint8_t)(r10_0_0 + 255u) < 2u) ? 5u : 7u);
+            r11_pn_50 = (uint8_t)(((uint8_t)(r10_0_0 + 255u) < 2u) ? 5u : 7u);
             goto arm_1_11;
         }
         if ((r19 % r18) == 0u) {
@@ -5218,7 +5069,7 @@ arm_5: {
         if (switch_8 && ((r11[145] & 1u) != 0)) {
             goto join_4;
         }
-        r11_pn_49 = (uint8_t)(switch_8 ? 6u : 5u);
+        r11_pn_50 = (uint8_t)(switch_8 ? 6u : 5u);
         goto arm_1_11;
     }
     }
@@ -5226,7 +5077,7 @@ arm_5: {
 mmc_direct_rules_refusal_exit: {
     bool switch_2 = (uint8_t)(r10_0_0 + 255u) < 2u;
     if (switch_2 || r7_0_in) {
-        r11_pn_49 = (uint8_t)(switch_2 ? 5u : 7u);
+        r11_pn_50 = (uint8_t)(switch_2 ? 5u : 7u);
         goto arm_1_11;
     }
 }
@@ -5238,21 +5089,21 @@ join_4: {
     r8_20[16] = r15_6_6_0_ph;
     r8_20[17] = r15_6_7_0_ph;
     store16_aligned(r8_20 + 18, r15_6_8_0_ph);
-    memcpy(r8_20 + 20, r23_6_8_0, 16);
-    r8_20[36] = r15_6_9_3_0_ph;
-    r8_20[37] = r15_6_9_4_0_ph;
-    r8_20[38] = 0u;
-    r8_20[39] = 0u;
-    r8_20[40] = 0u;
-    store16_aligned(r8_20 + 42, 0u);
-    store16_aligned(r8_20 + 44, 0u);
-    store32_aligned(r8_20 + 52, 0u);
-    memcpy(r8_20 + 56, r21_15, 17);
-    r8_20[73] = r15_6_9_14_0_ph;
-    r8_20[74] = r15_6_9_15_0_ph;
-    store32_aligned(r8_20 + 76, r15_6_9_17_0_ph);
-    r8_20[80] = r15_6_9_18_0_ph;
-    store32_aligned(r8_20 + 84, r15_6_9_20_0_ph);
+    memcpy(r8_20 + 20, r23_6_8_0, 20);
+    r8_20[40] = r15_6_9_3_0_ph;
+    r8_20[41] = r15_6_9_4_0_ph;
+    r8_20[42] = 0u;
+    r8_20[43] = 0u;
+    r8_20[44] = 0u;
+    store16_aligned(r8_20 + 46, 0u);
+    store16_aligned(r8_20 + 48, 0u);
+    store32_aligned(r8_20 + 56, 0u);
+    memcpy(r8_20 + 60, r21_15, 17);
+    r8_20[77] = r15_6_9_14_0_ph;
+    r8_20[78] = r15_6_9_15_0_ph;
+    store32_aligned(r8_20 + 80, r15_6_9_17_0_ph);
+    r8_20[84] = r15_6_9_18_0_ph;
+    store32_aligned(r8_20 + 88, r15_6_9_20_0_ph);
     store32_aligned(r8_20, r15_3_2_0_ph);
     switch (r1_4_16) {
     default: {
@@ -5285,24 +5136,24 @@ mmc_direct_going_on_go_on_d568f3fc8d51bff2_exit: {
     r20[2] = 0u;
     WayHost_set_ios(r8_20, r20);
     uint8_t r56 = *r8_20;
-    memcpy(r14_7 + 4, r8_20 + 4, 84);
+    memcpy(r14_7 + 4, r8_20 + 4, 88);
     memset(r0_17 + 4, 0u, 13);
     store32_aligned(r14_7, (uint32_t)r56);
-    r14_7[88] = r1_4_16;
-    r14_7[89] = r1_5_16;
-    r14_7[90] = r0_0_0_pn;
-    r14_7[91] = r0_2_0_pn;
-    store64_aligned(r14_7 + 96, 0u);
-    store64_aligned(r14_7 + 136, 0u);
-    r14_7[144] = r5_0_0;
-    r14_7[145] = a1_2;
-    r14_7[146] = 0u;
-    r14_7[147] = 0u;
-    r14_7[148] = 0u;
-    store16_aligned(r14_7 + 150, 0u);
-    store16_aligned(r14_7 + 152, 0u);
-    store32_aligned(r14_7 + 160, 0u);
-    memcpy(r14_7 + 164, r0_17, 17);
+    r14_7[96] = r1_4_16;
+    r14_7[97] = r1_5_16;
+    r14_7[98] = r0_0_0_pn;
+    r14_7[99] = r0_2_0_pn;
+    store64_aligned(r14_7 + 104, 0u);
+    store64_aligned(r14_7 + 144, 0u);
+    r14_7[152] = r5_0_0;
+    r14_7[153] = a1_2;
+    r14_7[154] = 0u;
+    r14_7[155] = 0u;
+    r14_7[156] = 0u;
+    store16_aligned(r14_7 + 158, 0u);
+    store16_aligned(r14_7 + 160, 0u);
+    store32_aligned(r14_7 + 168, 0u);
+    memcpy(r14_7 + 172, r0_17, 17);
     memcpy(r1 + 16, r11 + 16, 176);
     store128_aligned(r1, r24);
     uint16_t narrow = (uint16_t)((r37 == 0u) ? 4u : r37);
@@ -5428,52 +5279,52 @@ kelifandro_requests_let_go_fb070baa9c134c3e_exit: {
     uint8_t r14_15_2_6_0_57 = r14_7[12];
     uint8_t r14_15_2_7_0_58 = r14_7[13];
     uint16_t r14_15_2_8_0_59 = load16_aligned(r14_7 + 14);
-    memcpy(r14_15_2_9, r14_7 + 16, 16);
-    uint8_t r14_15_2_10_0_60 = r14_7[32];
-    uint8_t r14_15_2_11_0_61 = r14_7[33];
-    uint8_t r14_15_2_12_0_62 = r14_7[34];
-    uint8_t r14_15_2_13_0_63 = r14_7[35];
-    uint8_t r14_15_2_14_0_64 = r14_7[36];
-    uint8_t r14_15_2_15_0_65 = r14_7[37];
-    uint16_t r14_15_2_16_0_66 = load16_aligned(r14_7 + 38);
-    uint16_t r14_15_2_17_0_67 = load16_aligned(r14_7 + 40);
-    memcpy(r14_15_2_18, r14_7 + 42, 6);
-    uint32_t r14_15_2_19_0_68 = load32_aligned(r14_7 + 48);
-    memcpy(r14_15_2_20, r14_7 + 52, 17);
-    uint8_t r14_15_2_21_0_69 = r14_7[69];
-    uint8_t r14_15_2_22_0_70 = r14_7[70];
-    uint8_t r14_15_2_23_0_71 = r14_7[71];
-    uint32_t r14_15_2_24_0_72 = load32_aligned(r14_7 + 72);
-    uint8_t r14_15_2_25_0_73 = r14_7[76];
-    memcpy(r14_15_2_26, r14_7 + 77, 3);
-    uint32_t r14_15_2_27_0_74 = load32_aligned(r14_7 + 80);
-    uint32_t r14_15_2_28_0_0 = load32_aligned(r14_7 + 84);
+    memcpy(r14_15_2_9, r14_7 + 16, 20);
+    uint8_t r14_15_2_10_0_60 = r14_7[36];
+    uint8_t r14_15_2_11_0_61 = r14_7[37];
+    uint8_t r14_15_2_12_0_62 = r14_7[38];
+    uint8_t r14_15_2_13_0_63 = r14_7[39];
+    uint8_t r14_15_2_14_0_64 = r14_7[40];
+    uint8_t r14_15_2_15_0_65 = r14_7[41];
+    uint16_t r14_15_2_16_0_66 = load16_aligned(r14_7 + 42);
+    uint16_t r14_15_2_17_0_67 = load16_aligned(r14_7 + 44);
+    memcpy(r14_15_2_18, r14_7 + 46, 6);
+    uint32_t r14_15_2_19_0_68 = load32_aligned(r14_7 + 52);
+    memcpy(r14_15_2_20, r14_7 + 56, 17);
+    uint8_t r14_15_2_21_0_69 = r14_7[73];
+    uint8_t r14_15_2_22_0_70 = r14_7[74];
+    uint8_t r14_15_2_23_0_71 = r14_7[75];
+    uint32_t r14_15_2_24_0_72 = load32_aligned(r14_7 + 76);
+    uint8_t r14_15_2_25_0_73 = r14_7[80];
+    memcpy(r14_15_2_26, r14_7 + 81, 3);
+    uint32_t r14_15_2_27_0_74 = load32_aligned(r14_7 + 84);
+    uint32_t r14_15_2_28_0_0 = load32_aligned(r14_7 + 88);
     memcpy(r4_2 + 6, r14_15_2_5, 6);
-    memcpy(r4_2 + 52, r14_15_2_20, 17);
     r4_2[4] = r14_15_2_3_0_55;
     r4_2[5] = r14_15_2_4_0_56;
     r4_2[12] = r14_15_2_6_0_57;
     r4_2[13] = r14_15_2_7_0_58;
     store16_aligned(r4_2 + 14, r14_15_2_8_0_59);
-    memcpy(r4_2 + 16, r14_15_2_9, 16);
-    r4_2[32] = r14_15_2_10_0_60;
-    r4_2[33] = r14_15_2_11_0_61;
-    r4_2[34] = r14_15_2_12_0_62;
-    r4_2[35] = r14_15_2_13_0_63;
-    r4_2[36] = r14_15_2_14_0_64;
-    r4_2[37] = r14_15_2_15_0_65;
-    store16_aligned(r4_2 + 38, r14_15_2_16_0_66);
-    store16_aligned(r4_2 + 40, r14_15_2_17_0_67);
-    memcpy(r4_2 + 42, r14_15_2_18, 6);
-    store32_aligned(r4_2 + 48, r14_15_2_19_0_68);
-    r4_2[69] = r14_15_2_21_0_69;
-    r4_2[70] = r14_15_2_22_0_70;
-    r4_2[71] = r14_15_2_23_0_71;
-    store32_aligned(r4_2 + 72, r14_15_2_24_0_72);
-    r4_2[76] = r14_15_2_25_0_73;
-    memcpy(r4_2 + 77, r14_15_2_26, 3);
-    store32_aligned(r4_2 + 80, r14_15_2_27_0_74);
-    store32_aligned(r4_2 + 84, r14_15_2_28_0_0);
+    memcpy(r4_2 + 16, r14_15_2_9, 20);
+    r4_2[36] = r14_15_2_10_0_60;
+    r4_2[37] = r14_15_2_11_0_61;
+    r4_2[38] = r14_15_2_12_0_62;
+    r4_2[39] = r14_15_2_13_0_63;
+    r4_2[40] = r14_15_2_14_0_64;
+    r4_2[41] = r14_15_2_15_0_65;
+    store16_aligned(r4_2 + 42, r14_15_2_16_0_66);
+    store16_aligned(r4_2 + 44, r14_15_2_17_0_67);
+    memcpy(r4_2 + 46, r14_15_2_18, 6);
+    store32_aligned(r4_2 + 52, r14_15_2_19_0_68);
+    memcpy(r4_2 + 56, r14_15_2_20, 17);
+    r4_2[73] = r14_15_2_21_0_69;
+    r4_2[74] = r14_15_2_22_0_70;
+    r4_2[75] = r14_15_2_23_0_71;
+    store32_aligned(r4_2 + 76, r14_15_2_24_0_72);
+    r4_2[80] = r14_15_2_25_0_73;
+    memcpy(r4_2 + 81, r14_15_2_26, 3);
+    store32_aligned(r4_2 + 84, r14_15_2_27_0_74);
+    store32_aligned(r4_2 + 88, r14_15_2_28_0_0);
     store32_aligned(r4_2, r14_15_2_0_0_54 & 255u);
     hosts_end(r4_2, v17);
     if (v16) {
@@ -5493,7 +5344,7 @@ arm_1_11: {
 arm_5_11: {
     memcpy(a1, r3, 104);
     memcpy(r14_15_2_5, r23_6_4, 6);
-    memcpy(r14_15_2_9, r23_6_8_0, 16);
+    memcpy(r14_15_2_9, r23_6_8_0, 20);
     memcpy(r14_15_2_20, r21_15, 17);
     store32_aligned(r15_6, r15_3_2_0_ph);
     store32_aligned(r15_6 + 4, r3_0_0);
@@ -5503,25 +5354,25 @@ arm_5_11: {
     r15_6[16] = r15_6_6_0_ph;
     r15_6[17] = r15_6_7_0_ph;
     store16_aligned(r15_6 + 18, r15_6_8_0_ph);
-    memcpy(r15_6 + 20, r14_15_2_9, 16);
-    r15_6[36] = r15_6_9_3_0_ph;
-    r15_6[37] = r15_6_9_4_0_ph;
-    r15_6[38] = 0u;
-    r15_6[39] = 0u;
-    r15_6[40] = 0u;
-    store16_aligned(r15_6 + 42, 0u);
-    store16_aligned(r15_6 + 44, 0u);
-    memcpy(r15_6 + 46, r14_15_2_18, 6);
-    store32_aligned(r15_6 + 52, 0u);
-    memcpy(r15_6 + 56, r14_15_2_20, 17);
-    r15_6[73] = r15_6_9_14_0_ph;
-    r15_6[74] = r15_6_9_15_0_ph;
-    store32_aligned(r15_6 + 76, r15_6_9_17_0_ph);
-    r15_6[80] = r15_6_9_18_0_ph;
-    memcpy(r15_6 + 81, r14_15_2_26, 3);
-    store32_aligned(r15_6 + 84, r15_6_9_20_0_ph);
+    memcpy(r15_6 + 20, r14_15_2_9, 20);
+    r15_6[40] = r15_6_9_3_0_ph;
+    r15_6[41] = r15_6_9_4_0_ph;
+    r15_6[42] = 0u;
+    r15_6[43] = 0u;
+    r15_6[44] = 0u;
+    store16_aligned(r15_6 + 46, 0u);
+    store16_aligned(r15_6 + 48, 0u);
+    memcpy(r15_6 + 50, r14_15_2_18, 6);
+    store32_aligned(r15_6 + 56, 0u);
+    memcpy(r15_6 + 60, r14_15_2_20, 17);
+    r15_6[77] = r15_6_9_14_0_ph;
+    r15_6[78] = r15_6_9_15_0_ph;
+    store32_aligned(r15_6 + 80, r15_6_9_17_0_ph);
+    r15_6[84] = r15_6_9_18_0_ph;
+    memcpy(r15_6 + 85, r14_15_2_26, 3);
+    store32_aligned(r15_6 + 88, r15_6_9_20_0_ph);
     hosts_end(r15_6, false);
-    r11_0 = load32_aligned(at((uint8_t *)bytes_answers_refused_number, (uint64_t)r11_pn_49 * 4u));
+    r11_0 = load32_aligned(at((uint8_t *)bytes_answers_refused_number, (uint64_t)r11_pn_50 * 4u));
 }
 kelifandro_requests_told_fb070baa9c134c3e_exit: {
     return r11_0;
@@ -5651,13 +5502,13 @@ static void attempts_attempt(uint8_t *a0, uint8_t *a1, uint8_t *a2, uint8_t *a3,
     uint8_t r1_8_16;
     uint8_t r2_0_0;
     struct of_i8_i8 r28_fca_1_insert_merged;
-    uint8_t r69_sink_in;
+    uint8_t r71_sink_in;
     uint8_t *r13_3_2_0_sink;
     uint8_t r13_3_2_3_0_sink;
     uint8_t r13_3_2_4_0_sink;
     uint8_t r13_3_2_5_0_sink;
     uint8_t *r13_3_2_6_sink;
-    bool r44_sink_off0;
+    bool r45_sink_off0;
     uint16_t r1_0_3_0;
     uint8_t r1_0_2_0;
     uint8_t r1_0_0_0;
@@ -5890,41 +5741,41 @@ static void attempts_attempt(uint8_t *a0, uint8_t *a1, uint8_t *a2, uint8_t *a3,
     r8[146] = r1_8_16;
     memcpy(r8 + 147, a3 + 163, 29);
     reopening_reset(r6, a1, r8);
-    r69_sink_in = *r6;
+    r71_sink_in = *r6;
     r13_3_2_0_sink = r6 + 16;
     r13_3_2_3_0_sink = r6[160];
     r13_3_2_4_0_sink = r6[161];
     r13_3_2_5_0_sink = r6[162];
     r13_3_2_6_sink = r6 + 163;
-    r44_sink_off0 = true;
+    r45_sink_off0 = true;
     goto mmc_direct_attempts_settled_1bed76fd314cf36e_exit;
 mmc_recovery_order_restore_with_1bed76fd314cf36e_exit: {
-    uint8_t r44 = r28_fca_1_insert_merged.f0;
-    if (r44 == 0u) {
+    uint8_t r45 = r28_fca_1_insert_merged.f0;
+    if (r45 == 0u) {
         memcpy(r13_3_2_0, r3, 144);
-        r69_sink_in = 0u;
+        r71_sink_in = 0u;
         r13_3_2_0_sink = r13_3_2_0;
         r13_3_2_3_0_sink = r1_6_16;
         r13_3_2_4_0_sink = r1_7_16;
         r13_3_2_5_0_sink = r1_8_16;
         r13_3_2_6_sink = r13_3_2_6;
-        r44_sink_off0 = false;
+        r45_sink_off0 = false;
         goto mmc_direct_attempts_settled_1bed76fd314cf36e_exit;
     }
     reopening_reset(r17, a1, r3);
-    uint8_t r62 = *r17;
+    uint8_t r64 = *r17;
     memcpy(r13_3_2_0, r17 + 16, 144);
     uint8_t r13_3_2_3_0 = r17[160];
     uint8_t r13_3_2_4_0 = r17[161];
     uint8_t r13_3_2_5_0 = r17[162];
     memcpy(r13_3_2_6, r17 + 163, 29);
-    r69_sink_in = r62;
+    r71_sink_in = r64;
     r13_3_2_0_sink = r13_3_2_0;
     r13_3_2_3_0_sink = r13_3_2_3_0;
     r13_3_2_4_0_sink = r13_3_2_4_0;
     r13_3_2_5_0_sink = r13_3_2_5_0;
     r13_3_2_6_sink = r13_3_2_6;
-    r44_sink_off0 = (r44 & 1u) != 0;
+    r45_sink_off0 = (r45 & 1u) != 0;
 }
 mmc_direct_attempts_settled_1bed76fd314cf36e_exit: {
     uint8_t r2_2_1_0_0_0 = *r13_3_2_0_sink;
@@ -5934,8 +5785,8 @@ mmc_direct_attempts_settled_1bed76fd314cf36e_exit: {
     memcpy(r2_2_1_5, r13_3_2_6_sink, 29);
     uint64_t r8_8_0 = load64(a2 + 56);
     store64(a2 + 48, uadd_sat64(load64(a2 + 48), 1u));
-    store64(a2 + 56, r44_sink_off0 ? uadd_sat64(r8_8_0, 1u) : r8_8_0);
-    if (r69_sink_in == 0u) {
+    store64(a2 + 56, r45_sink_off0 ? uadd_sat64(r8_8_0, 1u) : r8_8_0);
+    if (r71_sink_in == 0u) {
         *r9_4 = r2_2_1_0_0_0;
         r9_4[1] = r2_2_1_0_6_0;
         store16_aligned(r9_4 + 2, r2_2_1_0_7_0);
@@ -6107,13 +5958,13 @@ loop_2_95: {
         }
         r16 = load32_aligned(r8_21 + 180);
         uint8_t *r14_116 = at(r56_16, (uint64_t)r16 << 9u);
-        if (a1[144] != a1[88]) {
+        if (a1[152] != a1[96]) {
             goto then_1;
         }
-        if (a1[145] != a1[89]) {
+        if (a1[153] != a1[97]) {
             goto then_1;
         }
-        if (a1[152] != 2u) {
+        if (a1[160] != 2u) {
             goto then_1;
         }
         if (*a1 != 0u) {
@@ -6148,23 +5999,23 @@ loop_2_95: {
     }
     r38 = r5_14[4];
     uint32_t r41 = load32_aligned(r5_14 + 8);
-    memcpy(r8_4, a1 + 144, 36);
+    memcpy(r8_4, a1 + 152, 36);
     HostState_command(r7_15, r8_4, r38, r41, r7_93);
     r3_0_0_2 = load64_aligned(r7_15);
     r3_4_0 = r7_15[9];
     r3_6_0 = r7_15[11];
     r3_7_0 = load16_aligned(r7_15 + 12);
     r3_8_0 = load16_aligned(r7_15 + 14);
-    r4_0_0_154 = a1[88];
-    r4_2_0_155 = a1[89];
+    r4_0_0_154 = a1[96];
+    r4_2_0_155 = a1[97];
     if ((r38 > 63u) || (r7_15[8] != 1u)) {
         goto arm_2_6_132;
     }
-    if (!(((r7_15[10] == 2u) && (a1[152] == 0u)) && (r54_15 <= (uint64_t)r3_7_0))) {
+    if (!(((r7_15[10] == 2u) && (a1[160] == 0u)) && (r54_15 <= (uint64_t)r3_7_0))) {
         goto arm_2_6_132;
     }
-    r28_0_0 = a1[90];
-    r28_2_0 = a1[91];
+    r28_0_0 = a1[98];
+    r28_2_0 = a1[99];
     switch (r4_0_0_154) {
     default: {
         trap();
@@ -6187,20 +6038,20 @@ loop_2_95: {
     }
 }
 then_1: {
-    a1[180] = 1u;
+    a1[188] = 1u;
     r0_0_0 = 2u;
     goto mmc_bus_data_offer_1bed76fd314cf36e_exit;
 }
 c_host_way_WayHost_write_block_b4302b8119c90b07_exit: {
-    memcpy(r8_5, a1 + 144, 36);
+    memcpy(r8_5, a1 + 152, 36);
     HostState_block_passed(r7_2_2, r8_5, r3_0_0 == 0u);
-    memcpy(a1 + 144, r7_2_2, 36);
+    memcpy(a1 + 152, r7_2_2, 36);
     r0_0_0 = r3_0_0;
 }
 mmc_bus_data_offer_1bed76fd314cf36e_exit: {
     *r4 = 2u;
     r4[1] = r0_0_0;
-    Wire_note(a1 + 88, r4);
+    Wire_note(a1 + 96, r4);
     if (r0_0_0 != 0u) {
         *r2_1 = 1u;
         r2_1[1] = 1u;
@@ -6252,7 +6103,7 @@ mmc_host_limits_are_within_exit_158: {
     if (!((v57 || (r28_2_0 == r4_2_0_155)) && (r5_0_0_159 == r4_0_0_154))) {
         goto arm_2_6_132;
     }
-    spec_select_165 = (r38 == 0u) || ((a1[147] & 1u) != 0);
+    spec_select_165 = (r38 == 0u) || ((a1[155] & 1u) != 0);
     switch (r4_0_0_154) {
     default: {
         trap();
@@ -6280,13 +6131,13 @@ after_2_229: {
 mmc_host_limits_limited_exit_166: {
     a1_168 = (uint8_t)(v57 ? 0u : r28_2_0);
     r29_169 = (uint8_t)spec_select_165;
-    if (a1[146] != r29_169) {
+    if (a1[154] != r29_169) {
         goto then_5_172;
     }
-    if (r5_0_0_167 != a1[144]) {
+    if (r5_0_0_167 != a1[152]) {
         goto then_5_172;
     }
-    if (a1_168 == a1[145]) {
+    if (a1_168 == a1[153]) {
         goto arm_1_173;
     }
 }
@@ -6298,7 +6149,7 @@ then_5_172: {
     *r12_13_2 = r5_0_0_167;
     r12_13_2[1] = a1_168;
     r12_13_2[2] = r29_169;
-    memcpy(a1 + 144, r12_13_2, 3);
+    memcpy(a1 + 152, r12_13_2, 3);
 }
 arm_1_173: {
     store64_aligned(r4_16, r3_0_0_2);
@@ -6364,7 +6215,7 @@ arm_1_173: {
     r1_8[5] = v63;
     memcpy(r1_8 + 6, r4_16 + 6, 6);
     store32_aligned(r1_8 + 12, r1_7_0_174);
-    if ((load32_aligned(a1 + 84) & UINT32_C(0x480000)) == 0u) {
+    if ((load32_aligned(a1 + 88) & UINT32_C(0x480000)) == 0u) {
         goto arm_2_180;
     }
     if (!((r1_8[10] == 2u) && (r54_15 == (uint64_t)(r1_7_0_174 & 65535u)))) {
@@ -6463,7 +6314,7 @@ mmc_story_host_StoryHostHost_write_with_326b3f3cedcf173d_exit: {
     r4_0_0_184 = r1_0_0_2;
 }
 c_host_way_WayHost_write_with_a85d9c08ec0965ce_exit: {
-    memcpy(r18_2, a1 + 144, 36);
+    memcpy(r18_2, a1 + 152, 36);
     HostState_sent(r17_3, r18_2, r4_16, r4_0_0_184 == 0u);
     uint8_t r1_3_0_185 = r17_3[3];
     uint8_t r1_5_0_7 = r17_3[4];
@@ -6497,18 +6348,18 @@ c_host_way_WayHost_write_with_a85d9c08ec0965ce_exit: {
     r8_3_0_202 = r1_3_0_185;
 }
 mmc_host_told_HostState_blocks_passed_b4a2e482f58b75af_exit: {
-    memcpy(a1 + 144, r8_0_4, 3);
-    a1[147] = r8_3_0_202;
-    a1[148] = r8_5_0_201;
-    store16(a1 + 150, r1_74_0_186);
-    store16(a1 + 152, r8_9_0_200);
-    store16(a1 + 154, r8_11_0_199);
-    store16(a1 + 156, r8_13_0_198);
-    store32(a1 + 160, (uint32_t)r1_147_0_187);
-    store32(a1 + 164, r1_168_0_188);
-    store32(a1 + 168, r1_18_0_189);
-    store32(a1 + 172, r1_20_0_190);
-    store32(a1 + 176, r1_22_0_191);
+    memcpy(a1 + 152, r8_0_4, 3);
+    a1[155] = r8_3_0_202;
+    a1[156] = r8_5_0_201;
+    store16(a1 + 158, r1_74_0_186);
+    store16(a1 + 160, r8_9_0_200);
+    store16(a1 + 162, r8_11_0_199);
+    store16(a1 + 164, r8_13_0_198);
+    store32(a1 + 168, (uint32_t)r1_147_0_187);
+    store32(a1 + 172, r1_168_0_188);
+    store32(a1 + 176, r1_18_0_189);
+    store32(a1 + 180, r1_20_0_190);
+    store32(a1 + 184, r1_22_0_191);
     *r21 = r4_0_0_184;
     r21[1] = r4_3_0_183;
     r21[4] = r4_55_0;
@@ -6520,7 +6371,7 @@ mmc_host_told_HostState_blocks_passed_b4a2e482f58b75af_exit: {
     v83 = *r7_17;
     r24[8] = v83;
     memcpy(r24 + 9, r7_17 + 1, 17);
-    Wire_note(a1 + 88, r24);
+    Wire_note(a1 + 96, r24);
     if (v80) {
         r10_33_013 = 1u;
         r10_0_012 = r4_11_0_182;
@@ -6534,10 +6385,10 @@ mmc_host_told_HostState_blocks_passed_b4a2e482f58b75af_exit: {
 }
 then_5_205: {
     uint64_t r33_206 = r10_33_013 + UINT64_C(0xffffffffffffffff);
-    store64_aligned(a1 + 136, uadd_sat64(r33_206, uadd_sat64(r33_206, load64_aligned(a1 + 136))));
+    store64_aligned(a1 + 144, uadd_sat64(r33_206, uadd_sat64(r33_206, load64_aligned(a1 + 144))));
     *r17_4 = 2u;
     r17_4[1] = r10_0_012;
-    Wire_note(a1 + 88, r17_4);
+    Wire_note(a1 + 96, r17_4);
 }
 mmc_host_noting_note_written_exit: {
     r86_sink = r7_17 + 1;
@@ -6710,21 +6561,21 @@ loop_2: {
     }
     r34_2 = r5_3[4];
     uint32_t r37_2 = load32_aligned(r5_3 + 8);
-    memcpy(r7_3, a1 + 144, 36);
+    memcpy(r7_3, a1 + 152, 36);
     HostState_command(r3_3, r7_3, r34_2, r37_2, r7_2);
-    r4_0_0 = a1[88];
-    r4_2_0 = a1[89];
+    r4_0_0 = a1[96];
+    r4_2_0 = a1[97];
     if (r34_2 > 63u) {
         goto arm_2_6;
     }
-    if (!((r3_3[10] == 1u) && (a1[152] == 0u))) {
+    if (!((r3_3[10] == 1u) && (a1[160] == 0u))) {
         goto arm_2_6;
     }
     if (!((load16_aligned(r3_3 + 12) == 512u) && (r37 <= (uint64_t)load16_aligned(r3_3 + 14)))) {
         goto arm_2_6;
     }
-    r24_0_0 = a1[90];
-    r24_2_0 = a1[91];
+    r24_0_0 = a1[98];
+    r24_2_0 = a1[99];
     switch (r4_0_0) {
     default: {
         trap();
@@ -6767,7 +6618,7 @@ mmc_host_limits_are_within_exit: {
     if (!((v18 || (r24_2_0 == r4_2_0)) && (r5_0_0_2 == r4_0_0))) {
         goto arm_2_6;
     }
-    spec_select = (r34_2 == 0u) || ((a1[147] & 1u) != 0);
+    spec_select = (r34_2 == 0u) || ((a1[155] & 1u) != 0);
     switch (r4_0_0) {
     default: {
         trap();
@@ -6795,13 +6646,13 @@ after_2_2: {
 mmc_host_limits_limited_exit: {
     a1_2 = (uint8_t)(v18 ? 0u : r24_2_0);
     r29_2 = (uint8_t)spec_select;
-    if (a1[146] != r29_2) {
+    if (a1[154] != r29_2) {
         goto then_5;
     }
-    if (r5_0_0_3 != a1[144]) {
+    if (r5_0_0_3 != a1[152]) {
         goto then_5;
     }
-    if (a1_2 == a1[145]) {
+    if (a1_2 == a1[153]) {
         goto arm_1;
     }
 }
@@ -6813,7 +6664,7 @@ then_5: {
     *r12_2 = r5_0_0_3;
     r12_2[1] = a1_2;
     r12_2[2] = r29_2;
-    memcpy(a1 + 144, r12_2, 3);
+    memcpy(a1 + 152, r12_2, 3);
 }
 arm_1: {
     memcpy(r4_5, r3_3, 16);
@@ -6865,7 +6716,7 @@ arm_1: {
     r1_5[5] = r1_5_0;
     memcpy(r1_5 + 6, r4_5 + 6, 6);
     store32_aligned(r1_5 + 12, r1_7_0);
-    if ((load32_aligned(a1 + 84) & UINT32_C(0x480000)) == 0u) {
+    if ((load32_aligned(a1 + 88) & UINT32_C(0x480000)) == 0u) {
         goto arm_2_3;
     }
     if (!(((r1_5[10] == 1u) && ((uint32_t)(r1_7_0 & 65535u) == 512u)) && (r37 == (uint64_t)(r1_7_0 >> 16u)))) {
@@ -6981,7 +6832,7 @@ mmc_story_host_StoryHostHost_read_with_ad85f67b87cd1a36_exit: {
     r4_0_0_2 = v21;
 }
 c_host_way_WayHost_read_with_26638964995f45d7_exit: {
-    memcpy(r20, a1 + 144, 36);
+    memcpy(r20, a1 + 152, 36);
     HostState_sent(r19_3, r20, r4_5, r4_0_0_2 == 0u);
     uint8_t r1_3_0 = r19_3[3];
     uint8_t r1_5_0_6 = r19_3[4];
@@ -7014,18 +6865,18 @@ c_host_way_WayHost_read_with_26638964995f45d7_exit: {
     r8_3_0 = r1_3_0;
 }
 mmc_host_told_HostState_blocks_passed_7f0cbf1439b758da_exit: {
-    memcpy(a1 + 144, r8_0, 3);
-    a1[147] = r8_3_0;
-    a1[148] = r8_5_0;
-    store16(a1 + 150, r1_74_0);
-    store16(a1 + 152, r8_9_0);
-    store16(a1 + 154, r8_11_0);
-    store16(a1 + 156, r8_13_0);
-    store32(a1 + 160, (uint32_t)r1_147_0);
-    store32(a1 + 164, r1_168_0);
-    store32(a1 + 168, r1_18_0);
-    store32(a1 + 172, r1_20_0);
-    store32(a1 + 176, r1_22_0);
+    memcpy(a1 + 152, r8_0, 3);
+    a1[155] = r8_3_0;
+    a1[156] = r8_5_0;
+    store16(a1 + 158, r1_74_0);
+    store16(a1 + 160, r8_9_0);
+    store16(a1 + 162, r8_11_0);
+    store16(a1 + 164, r8_13_0);
+    store32(a1 + 168, (uint32_t)r1_147_0);
+    store32(a1 + 172, r1_168_0);
+    store32(a1 + 176, r1_18_0);
+    store32(a1 + 180, r1_20_0);
+    store32(a1 + 184, r1_22_0);
     *r23_2 = r4_0_0_2;
     r23_2[1] = r4_3_0;
     r23_2[4] = r4_6_0_2;
@@ -7037,7 +6888,7 @@ mmc_host_told_HostState_blocks_passed_7f0cbf1439b758da_exit: {
     v37 = *r7_4;
     r26[8] = v37;
     memcpy(r26 + 9, r7_4 + 1, 17);
-    Wire_note(a1 + 88, r26);
+    Wire_note(a1 + 96, r26);
     if (r4_11_0) {
         r10_32_08 = 1u;
         r10_0_07 = r4_13_0;
@@ -7050,11 +6901,11 @@ mmc_host_told_HostState_blocks_passed_7f0cbf1439b758da_exit: {
     r10_0_07 = 0u;
 }
 then_5_2: {
-    store64_aligned(a1 + 136, uadd_sat64(r10_32_08 + UINT64_C(0xffffffffffffffff), load64_aligned(a1 + 136)));
+    store64_aligned(a1 + 144, uadd_sat64(r10_32_08 + UINT64_C(0xffffffffffffffff), load64_aligned(a1 + 144)));
     *r16_4 = 1u;
     store64_aligned(r16_4 + 8, 512u);
     r16_4[16] = r10_0_07;
-    Wire_note(a1 + 88, r16_4);
+    Wire_note(a1 + 96, r16_4);
 }
 mmc_host_noting_note_blocks_exit: {
     r92_sink = r7_4 + 1;
@@ -7329,90 +7180,90 @@ static void order_show_status(uint8_t *a0, uint8_t *a1, uint16_t a2)
 /* mmc_recovery::reopening::reset::<#1bed76fd314cf36e> */
 static void reopening_reset(uint8_t *a0, uint8_t *a1, uint8_t *a2)
 {
-    KELIFANDRO_ROOM uint8_t r2[176];
+    KELIFANDRO_ROOM uint8_t r3[176];
     KELIFANDRO_ROOM uint8_t room[176];
-    uint8_t *const r4 = room;
-    uint8_t *const r13_3_2_0 = room;
+    uint8_t *const r5 = room;
+    uint8_t *const r15_3_2_0 = room;
     KELIFANDRO_ROOM uint8_t room_2[160];
     uint8_t *const r8 = room_2;
-    uint8_t *const r3 = room_2;
+    uint8_t *const r4 = room_2;
     KELIFANDRO_ROOM uint8_t r3_2[144];
-    uint8_t r13_3_2_3_0;
-    uint8_t r13_3_2_5_0;
-    uint8_t r13_3_2_7_0;
-    uint8_t r13_0_0;
+    uint8_t r15_3_2_3_0;
+    uint8_t r15_3_2_5_0;
+    uint8_t r15_3_2_7_0;
+    uint8_t r15_0_0;
     uint64_t sink17;
-    uint8_t r13_3_2_5_0_sink;
+    uint8_t r15_3_2_5_0_sink;
     uint64_t sink;
-    uint8_t r13_3_2_7_0_sink;
-    memcpy(r2, a2, 176);
-    initialization_initialize(r4, a1);
-    if (*r4 != 0u) {
-        uint8_t r7_2_0 = r2[144];
+    uint8_t r15_3_2_7_0_sink;
+    memcpy(r3, a2, 176);
+    opening_initialize_in(r5, a1, 8u);
+    if (*r5 != 0u) {
+        uint8_t r9_2_0 = r3[144];
         store128(a0, u128_of(0u, 1u));
-        memcpy(a0 + 16, r2, 144);
+        memcpy(a0 + 16, r3, 144);
         sink17 = 160u;
-        r13_3_2_5_0_sink = r7_2_0;
+        r15_3_2_5_0_sink = r9_2_0;
         sink = 161u;
-        r13_3_2_7_0_sink = 0u;
+        r15_3_2_7_0_sink = 0u;
         goto common_ret;
     }
-    memcpy(r3, r4 + 16, 144);
-    uint8_t v1 = r4[160];
-    r3[144] = v1;
-    uint8_t v2 = r4[161];
-    r3[145] = v2;
-    uint8_t v3 = r4[162];
-    r3[146] = v3;
-    Info_used_as(r3_2, r3, r2);
+    memcpy(r4, r5 + 16, 144);
+    uint8_t v1 = r5[160];
+    r4[144] = v1;
+    uint8_t v2 = r5[161];
+    r4[145] = v2;
+    uint8_t v3 = r5[162];
+    r4[146] = v3;
+    Info_used_as(r3_2, r4, r3);
     uint16_t r4_0_0 = load16_aligned(r3_2);
     uint8_t r4_2_3_0 = r3_2[32];
     u128 r4_2_5_0 = load128_aligned(r3_2 + 48);
     uint8_t v4 = (uint8_t)r4_0_0;
-    uint16_t v6 = load16_aligned(r2);
+    uint16_t v6 = load16_aligned(r3);
     uint8_t v7 = (uint8_t)v6;
-    bool or_cond32 = ((r3_2[112] == r2[112]) && (load64_aligned(r3_2 + 120) == load64_aligned(r2 + 120))) && (r3_2[128] == r2[128]);
-    bool or_cond36 = ((or_cond32 && (r3_2[129] == r2[129])) && (r3_2[130] == r2[130])) && ((v4 == v7) && ((uint16_t)(v6 ^ r4_0_0) < 256u));
-    bool or_cond39 = ((or_cond36 && u128_eq(load128_aligned(r3_2 + 16), load128_aligned(r2 + 16))) && (r4_2_3_0 == r2[32])) && u128_eq(r4_2_5_0, load128_aligned(r2 + 48));
-    bool or_cond42 = ((or_cond39 && (load64_aligned(r3_2 + 64) == load64_aligned(r2 + 64))) && (load64_aligned(r3_2 + 72) == load64_aligned(r2 + 72))) && (load64_aligned(r3_2 + 80) == load64_aligned(r2 + 80));
-    bool or_cond45 = ((or_cond42 && (load64_aligned(r3_2 + 88) == load64_aligned(r2 + 88))) && (load64_aligned(r3_2 + 96) == load64_aligned(r2 + 96))) && (load64_aligned(r3_2 + 104) == load64_aligned(r2 + 104));
-    bool or_cond47 = (or_cond45 && (r3_2[131] == r2[131])) && ((uint8_t)((v4 == 0u) ? 0u : r3_2[132]) == (uint8_t)((v7 == 0u) ? 0u : r2[132]));
-    if (!(or_cond47 && (r3[32] == r4_2_3_0))) {
+    bool or_cond32 = ((r3_2[112] == r3[112]) && (load64_aligned(r3_2 + 120) == load64_aligned(r3 + 120))) && (r3_2[128] == r3[128]);
+    bool or_cond36 = ((or_cond32 && (r3_2[129] == r3[129])) && (r3_2[130] == r3[130])) && ((v4 == v7) && ((uint16_t)(v6 ^ r4_0_0) < 256u));
+    bool or_cond39 = ((or_cond36 && u128_eq(load128_aligned(r3_2 + 16), load128_aligned(r3 + 16))) && (r4_2_3_0 == r3[32])) && u128_eq(r4_2_5_0, load128_aligned(r3 + 48));
+    bool or_cond42 = ((or_cond39 && (load64_aligned(r3_2 + 64) == load64_aligned(r3 + 64))) && (load64_aligned(r3_2 + 72) == load64_aligned(r3 + 72))) && (load64_aligned(r3_2 + 80) == load64_aligned(r3 + 80));
+    bool or_cond45 = ((or_cond42 && (load64_aligned(r3_2 + 88) == load64_aligned(r3 + 88))) && (load64_aligned(r3_2 + 96) == load64_aligned(r3 + 96))) && (load64_aligned(r3_2 + 104) == load64_aligned(r3 + 104));
+    bool or_cond47 = (or_cond45 && (r3_2[131] == r3[131])) && ((uint8_t)((v4 == 0u) ? 0u : r3_2[132]) == (uint8_t)((v7 == 0u) ? 0u : r3[132]));
+    if (!(or_cond47 && (r4[32] == r4_2_3_0))) {
         goto else_6;
     }
-    u128 r4_4_3_0_in = load128_aligned(r3 + 48);
+    u128 r4_4_3_0_in = load128_aligned(r4 + 48);
     if (!u128_lt(u128_xor(r4_4_3_0_in, r4_2_5_0), u128_of(0u, 8192u))) {
         goto else_6;
     }
-    memcpy(r8, r4 + 16, 144);
+    memcpy(r8, r5 + 16, 144);
     r8[144] = v1;
     r8[145] = v2;
     r8[146] = v3;
-    Info_used_as(r13_3_2_0, r8, r2);
-    r13_3_2_3_0 = v1;
-    r13_3_2_5_0 = v2;
-    r13_3_2_7_0 = v3;
-    r13_0_0 = 0u;
+    Info_used_as(r15_3_2_0, r8, r3);
+    r15_3_2_3_0 = v1;
+    r15_3_2_5_0 = v2;
+    r15_3_2_7_0 = v3;
+    r15_0_0 = 0u;
     goto join_7;
 else_6: {
-    memcpy(r13_3_2_0, r2, 144);
-    r13_3_2_3_0 = r2[144];
-    r13_3_2_5_0 = 0u;
-    r13_3_2_7_0 = 0u; /* any */
-    r13_0_0 = 1u;
+    memcpy(r15_3_2_0, r3, 144);
+    r15_3_2_3_0 = r3[144];
+    r15_3_2_5_0 = 0u;
+    r15_3_2_7_0 = 0u; /* any */
+    r15_0_0 = 1u;
 }
 join_7: {
-    store128(a0, u128_of(0u, r13_0_0));
-    memcpy(a0 + 16, r13_3_2_0, 144);
-    a0[160] = r13_3_2_3_0;
+    store128(a0, u128_of(0u, r15_0_0));
+    memcpy(a0 + 16, r15_3_2_0, 144);
+    a0[160] = r15_3_2_3_0;
     sink17 = 161u;
-    r13_3_2_5_0_sink = r13_3_2_5_0;
+    r15_3_2_5_0_sink = r15_3_2_5_0;
     sink = 162u;
-    r13_3_2_7_0_sink = r13_3_2_7_0;
+    r15_3_2_7_0_sink = r15_3_2_7_0;
 }
 common_ret: {
-    *at(a0, sink17) = r13_3_2_5_0_sink;
-    *at(a0, sink) = r13_3_2_7_0_sink;
+    *at(a0, sink17) = r15_3_2_5_0_sink;
+    *at(a0, sink) = r15_3_2_7_0_sink;
     a0[176] = 4u;
     a0[177] = 1u;
     return;
@@ -7565,11 +7416,11 @@ static struct of_i8_i64 CRegisters_lend(uint8_t *a0, bool a1, uint64_t a2)
     r7_5_0 = (uint8_t)(a2 >> 8u);
     sink_off0 = 1u;
 c_host_registers_lent_by_exit: {
-    store16(a0 + 22, (uint16_t)sink_off0);
-    a0[24] = r7_23_0;
-    a0[25] = r7_4_0;
-    a0[26] = r7_5_0;
-    store16(a0 + 28, 0u);
+    store16(a0 + 28, (uint16_t)sink_off0);
+    a0[30] = r7_23_0;
+    a0[31] = r7_4_0;
+    a0[32] = r7_5_0;
+    store16(a0 + 34, 0u);
     if ((((v1 ^ UINT64_C(0xffffffffffffffff)) >> 9u) >= a2) && ((v1 != 0u) && ((uint64_t)(v1 & 3u) == 0u))) {
         r0_0_0 = 1u;
         r0_3_2_0 = v1;
@@ -7613,18 +7464,18 @@ static void Sdhci_move_blocks(uint8_t *a0, uint8_t *a1, uint8_t *a2, uint64_t a3
     uint64_t v7;
     uint16_t v10;
     uint16_t v11;
-    uint32_t r1_05;
-    uint8_t r0_3_0_51;
-    uint8_t r0_0_0_49;
+    uint32_t r0_6_5_0_7;
+    uint8_t r0_3_0_50;
+    uint8_t r0_0_0_48;
     memcpy(r1, a2, 16);
-    if (!((a1[68] & 1u) != 0)) {
+    if (!((a1[72] & 1u) != 0)) {
         store64(a0, 0u);
         goto common_ret;
     }
     r27 = (uint32_t)a4 << 9u;
-    r11_0_0 = a1[32];
-    r11_2_0 = a1[33];
-    uint32_t r48 = load32_aligned(a1 + 80);
+    r11_0_0 = a1[36];
+    r11_2_0 = a1[37];
+    uint32_t r48 = load32_aligned(a1 + 84);
     uint64_t r1_2 = (uint64_t)r27;
     if (!((r48 & UINT32_C(0x80000)) == 0u)) {
         r29 = (a3 + r1_2) > UINT64_C(0x100000000);
@@ -7651,7 +7502,7 @@ static void Sdhci_move_blocks(uint8_t *a0, uint8_t *a1, uint8_t *a2, uint64_t a3
 arm_6: {
     uint32_t r91 = (r27 + 32767u) >> 15u;
     r16 = (uint16_t)((uint32_t)v * (uint16_t)r91);
-    if (load16_aligned(a1 + 18) < r16) {
+    if (load16_aligned(a1 + 24) < r16) {
         goto then_4;
     }
     r11 = (uint64_t)r91;
@@ -7692,17 +7543,24 @@ c_host_stream_Stream_lend_table_exit: {
     store64_aligned(r2, 0u);
     Stream_ask(a1, (uint8_t *)bytes_static_5, 1u, r2, 8u);
     v7 = load64_aligned(r2);
-    if ((v7 == 0u) || (a1[22] != 1u)) {
+    if ((v7 == 0u) || (a1[28] != 1u)) {
         goto sdhci_story_registers_StoryRegistersRegisters_lend_table_52343085cde207f1_exit;
     }
-    store16_aligned(a1 + 28, r16);
+    store16_aligned(a1 + 34, r16);
 }
 sdhci_story_registers_StoryRegistersRegisters_lend_table_52343085cde207f1_exit: {
     if (!((r29 || (v7 < UINT64_C(0x100000000))) && ((v7 != 0u) && ((uint64_t)(v7 & 7u) == 0u)))) {
         goto then_4;
     }
     StoryRegistersRegisters_write8(a1, 40u, (uint8_t)((uint8_t)((uint8_t)((r11_2_0 == 0u) ? 0u : 4u) | (uint8_t)(r29 ? 24u : 16u)) | (uint8_t)((uint32_t)UINT32_C(0x200200) >> ((((uint32_t)r11_0_0 << 3u) & UINT32_C(0xffffff)) & 31u))));
-    Stream_write_register(a1, 4u, 52u, UINT32_C(0x27f0033));
+    uint32_t r6_3 = Stream_read_register(a1, 4u, 52u);
+    uint32_t r14_8 = (r6_3 & 192u) | UINT32_C(0x27f0033);
+    if (r6_3 == r14_8) {
+        goto mmc_sdhci_moving_point_at_table_d002fd087b3dc1c2_exit;
+    }
+    Stream_write_register(a1, 4u, 52u, r14_8);
+}
+mmc_sdhci_moving_point_at_table_d002fd087b3dc1c2_exit: {
     Stream_write_register(a1, 4u, 88u, (uint32_t)v7);
     Stream_write_register(a1, 4u, 92u, (uint32_t)(v7 >> 32u));
     goto join_6;
@@ -7712,20 +7570,36 @@ then_4: {
     goto common_ret;
 }
 join_6: {
-    store16_aligned(r13, (uint16_t)a1[40]);
-    v10 = load16(a1 + 42);
+    store16_aligned(r13, (uint16_t)a1[44]);
+    v10 = load16(a1 + 46);
     store16_aligned(r13 + 2, v10);
-    v11 = load16(a1 + 44);
+    v11 = load16(a1 + 48);
     store16_aligned(r13 + 4, v11);
     command_send(r3, a1, r13, r1, 1u);
-    memcpy(r16_2, a1 + 32, 36);
+    memcpy(r16_2, a1 + 36, 36);
     uint8_t r1_0_0_24 = *r3;
     bool v12 = r1_0_0_24 == 0u;
     HostState_sent(r15, r16_2, r1, v12);
-    memcpy(a1 + 32, r15, 36);
+    memcpy(a1 + 36, r15, 36);
     if (v12) {
-        r1_05 = 0u;
-        goto join_5_2;
+        if (!((a1[18] & 1u) != 0)) {
+            goto mmc_sdhci_moving_watch_moving_d002fd087b3dc1c2_exit;
+        }
+        struct of_i8_i32 r30_2 = moving_look(a1, 2u);
+        if (r30_2.f0 == 1u) {
+            r0_6_5_0_7 = r30_2.f1;
+            goto arm_2;
+        }
+        StoryRegistersRegisters_wait(a1, UINT32_C(0x27f0002), UINT32_C(0x989680));
+        uint32_t r6_7 = Stream_read_register(a1, 4u, 48u);
+        if (!((uint32_t)(r6_7 & 32770u) == 0u)) {
+            r0_6_5_0_7 = r6_7;
+            goto arm_2;
+        }
+        if ((r6_7 & UINT32_C(0x27f0000)) == 0u) {
+            goto arm_1;
+        }
+        goto mmc_sdhci_moving_watch_moving_d002fd087b3dc1c2_exit;
     }
     uint8_t v13 = r3[1];
     uint8_t v14 = r3[4];
@@ -7738,46 +7612,76 @@ join_6: {
     store64(a0 + 40, 0u);
     goto common_ret;
 }
-join_5_2: {
-    uint32_t r6_4 = Stream_read_register(a1, 4u, 48u);
-    if ((uint32_t)(r6_4 & 32770u) == 0u) {
-        Stream_pause(a1, (r1_05 < 1000u) ? 1u : 50u);
-        uint32_t r27_28 = r1_05 + 1u;
-        if (r27_28 != UINT32_C(0x31128)) {
-            r1_05 = r27_28;
-            goto join_5_2;
-        }
-        command_reset_data(a1);
-        r0_3_0_51 = 2u;
-        r0_0_0_49 = 1u;
-        goto join_13;
+mmc_sdhci_moving_watch_moving_d002fd087b3dc1c2_exit: {
+    struct of_i8_i32 r24_27 = moving_look(a1, UINT32_C(0x31128));
+    if (r24_27.f0 == 0u) {
+        goto arm_1;
     }
-    if ((uint32_t)(r6_4 & 32768u) == 0u) {
-        r0_3_0_51 = 0u; /* any */
-        r0_0_0_49 = 0u;
+    r0_6_5_0_7 = r24_27.f1;
+    goto arm_2;
+}
+arm_1: {
+    command_reset_data(a1);
+    r0_3_0_50 = 2u;
+    r0_0_0_48 = 1u;
+    goto join_13;
+}
+arm_2: {
+    if ((uint32_t)(r0_6_5_0_7 & 32768u) == 0u) {
+        r0_3_0_50 = 0u; /* any */
+        r0_0_0_48 = 0u;
         goto join_13;
     }
     command_reset_data(a1);
-    r0_3_0_51 = (uint8_t)(((r6_4 & UINT32_C(0x600000)) == 0u) ? 2u : 1u);
-    r0_0_0_49 = 1u;
+    r0_3_0_50 = (uint8_t)(((r0_6_5_0_7 & UINT32_C(0x600000)) == 0u) ? 2u : 1u);
+    r0_0_0_48 = 1u;
 }
 join_13: {
-    store16(a1 + 40, 0u);
-    store16(a1 + 42, v10);
-    store16(a1 + 44, v11);
-    uint8_t v18 = r3[1];
-    uint8_t v19 = r3[4];
+    store16(a1 + 44, 0u);
+    store16(a1 + 46, v10);
+    store16(a1 + 48, v11);
+    uint8_t v20 = r3[1];
+    uint8_t v21 = r3[4];
     store64(a0, 1u);
     a0[8] = 0u;
-    a0[9] = v18;
-    a0[12] = v19;
+    a0[9] = v20;
+    a0[12] = v21;
     memcpy(a0 + 13, r3 + 5, 15);
-    a0[32] = r0_0_0_49;
-    a0[33] = r0_3_0_51;
+    a0[32] = r0_0_0_48;
+    a0[33] = r0_3_0_50;
     store64(a0 + 40, a4);
 }
 common_ret: {
     return;
+}
+}
+
+/* mmc_sdhci::moving::look::<#d002fd087b3dc1c2> */
+static struct of_i8_i32 moving_look(uint8_t *a0, uint32_t a1)
+{
+    uint32_t r1_05;
+    uint32_t r6_4;
+    uint8_t r0_0_0;
+    r1_05 = 0u;
+join_5: {
+    r6_4 = Stream_read_register(a0, 4u, 48u);
+    if (!((uint32_t)(r6_4 & 32770u) == 0u)) {
+        r0_0_0 = 1u;
+        goto return_9;
+    }
+    Stream_pause(a0, (r1_05 < 1000u) ? 1u : 50u);
+    uint32_t r27 = r1_05 + 1u;
+    if (r27 == a1) {
+        r0_0_0 = 0u;
+        goto return_9;
+    }
+    r1_05 = r27;
+    goto join_5;
+}
+return_9: {
+    struct of_i8_i32 r28_fca_0_insert = (struct of_i8_i32){r0_0_0, 0};
+    struct of_i8_i32 r28_fca_1_insert = (struct of_i8_i32){r28_fca_0_insert.f0, r6_4};
+    return r28_fca_1_insert;
 }
 }
 
@@ -8134,9 +8038,9 @@ static uint8_t SdhciHost_write_block(uint8_t *a0, uint8_t *a1)
     bool r10_0_0_shrunk;
     uint8_t r0_0_0_2;
     uint8_t r0_0_0;
-    uint8_t r12 = a0[40];
-    uint16_t v0 = load16(a0 + 42);
-    uint16_t v1 = load16(a0 + 44);
+    uint8_t r12 = a0[44];
+    uint16_t v0 = load16(a0 + 46);
+    uint16_t v1 = load16(a0 + 48);
     watching_watch(r2, a0, 2u, 0u);
     if (*r2 != 1u) {
         goto mmc_sdhci_data_find_room_d002fd087b3dc1c2_exit;
@@ -8189,9 +8093,9 @@ mmc_sdhci_data_see_gone_d002fd087b3dc1c2_exit: {
     r0_0_0 = r0_0_0_2;
 }
 mmc_sdhci_data_write_block_d002fd087b3dc1c2_exit: {
-    memcpy(r6, a0 + 32, 36);
+    memcpy(r6, a0 + 36, 36);
     HostState_block_passed(r5, r6, r0_0_0 == 0u);
-    memcpy(a0 + 32, r5, 36);
+    memcpy(a0 + 36, r5, 36);
     return r0_0_0;
 }
 }
@@ -8535,7 +8439,7 @@ int32_t kelifandro_open_by(const void *way, void *card, void *healed)
         common_ret_op = r15;
         goto kelifandro_exports_kelifandro_open_by_exit;
     }
-    if (way_bytes[16] == 0u) {
+    if (way_bytes[21] == 0u) {
         common_ret_op = UINT32_C(0xffffffec);
         goto kelifandro_exports_kelifandro_open_by_exit;
     }
@@ -8627,8 +8531,8 @@ int32_t kelifandro_serve_long_by(const void *way, void *card, void *healed, cons
         common_ret_op = 0u;
         goto kelifandro_longs_serve_parts_fb070baa9c134c3e_exit;
     }
-    uint16_t r10_2 = load16_aligned(way_bytes + 8);
-    r1 = ((way_bytes[15] == 0u) || ((uint16_t)(r10_2 + 53248u) < 53260u)) ? 65535u : ((uint64_t)(uint16_t)(r10_2 / 12u) << 6u);
+    uint16_t r10_2 = load16_aligned(way_bytes + 12);
+    r1 = ((way_bytes[19] == 0u) || ((uint16_t)(r10_2 + 53248u) < 53260u)) ? 65535u : ((uint64_t)(uint16_t)(r10_2 / 12u) << 6u);
     r18_0_0_insert_insert = (uint64_t)((r12 << 8u) | (uint32_t)r1_0_01);
     r4026 = 0u;
     r18_0_025 = 0u; /* any */
