@@ -426,13 +426,13 @@ static void given_given_by(uint8_t *a0, uint8_t *a1);
 static void CFunctions_set_power(uint8_t *a0, bool a1);
 static void io_write_all(uint32_t a0, uint8_t *a1, uint64_t a2);
 static void StoryRegistersRegisters_write8(uint8_t *a0, uint8_t a1, uint8_t a2);
-static void CRegisters_write_in_word(uint8_t *a0, uint8_t a1, uint8_t a2);
+static KELIFANDRO_APART void CRegisters_write_in_word(uint8_t *a0, uint8_t a1, uint8_t a2);
 static uint32_t Stream_read_register(uint8_t *a0, uint8_t a1, uint8_t a2);
 static void Stream_ask(uint8_t *a0, uint8_t *a1, uint64_t a2, uint8_t *a3, uint64_t a4);
 static uint64_t io_read_full(uint32_t a0, uint8_t *a1, uint64_t a2);
 static void Stream_write_register(uint8_t *a0, uint8_t a1, uint8_t a2, uint32_t a3);
 static void hosts_switch_on(uint8_t *a0);
-static uint32_t opening_open_once(uint8_t *a0, uint8_t *a1, uint8_t *a2);
+static KELIFANDRO_APART uint32_t opening_open_once(uint8_t *a0, uint8_t *a1, uint8_t *a2);
 static void CFunctionsHost_set_ios(uint8_t *a0, uint8_t *a1);
 static void command_lose_all(uint8_t *a0);
 static void command_reset_command(uint8_t *a0);
@@ -441,10 +441,10 @@ static void Stream_pause(uint8_t *a0, uint32_t a1);
 static void command_reset_data(uint8_t *a0);
 static uint32_t CRegistersRegisters_read32(uint8_t *a0, uint8_t a1);
 static uint8_t StoryRegistersRegisters_read8(uint8_t *a0, uint8_t a1);
-static uint8_t CRegisters_read_in_word(uint8_t *a0, uint8_t a1);
+static KELIFANDRO_APART uint8_t CRegisters_read_in_word(uint8_t *a0, uint8_t a1);
 static void clock_set_clock(uint8_t *a0, uint32_t a1, uint8_t a2, uint32_t a3);
 static void opening_initialize_in(uint8_t *a0, uint8_t *a1, uint64_t a2);
-static void identification_identify(uint8_t *a0, uint8_t *a1);
+static KELIFANDRO_APART void identification_identify(uint8_t *a0, uint8_t *a1);
 static void shared_go_idle(uint8_t *a0);
 static void frame_framed(uint8_t *a0, uint8_t a1, uint32_t a2);
 static void HostBusBus_command(uint8_t *a0, uint8_t *a1, uint8_t *a2, uint8_t a3);
@@ -506,9 +506,9 @@ static void steps_step(uint8_t *a0, uint8_t *a1, uint8_t *a2, uint8_t *a3);
 static void Ending_step(uint8_t *a0, uint8_t a1, uint64_t a2, uint8_t *a3, uint8_t *a4);
 static uint8_t SdhciHost_write_block(uint8_t *a0, uint8_t *a1);
 static void request_erase(uint8_t *a0, uint8_t *a1, uint8_t *a2, uint64_t a3, uint64_t a4, uint8_t a5);
-static void counting_count_done(uint8_t *a0);
-static void counting_count_failed(uint8_t *a0, uint8_t a1);
-static struct of_i8_i32 longs_may_begin(uint8_t *a0, uint8_t *a1, uint8_t *a2);
+static KELIFANDRO_APART void counting_count_done(uint8_t *a0);
+static KELIFANDRO_APART void counting_count_failed(uint8_t *a0, uint8_t a1);
+static KELIFANDRO_APART struct of_i8_i32 longs_may_begin(uint8_t *a0, uint8_t *a1, uint8_t *a2);
 
 /* kelifandro::calls::open_card */
 static void calls_open_card(uint8_t *a0, uint8_t *a1, uint8_t *a2)
@@ -1097,7 +1097,7 @@ c_host_registers_CRegistersRegisters_write8_exit: {
 }
 
 /* c_host::registers::CRegisters::write_in_word */
-static void CRegisters_write_in_word(uint8_t *a0, uint8_t a1, uint8_t a2)
+static KELIFANDRO_APART void CRegisters_write_in_word(uint8_t *a0, uint8_t a1, uint8_t a2)
 {
     KELIFANDRO_ROOM uint8_t r1[4];
     uint8_t r4 = (uint8_t)(a1 & 44u);
@@ -1187,7 +1187,7 @@ join_4: {
 }
 
 /* kelifandro::opening::open_once::<#fb070baa9c134c3e> */
-static uint32_t opening_open_once(uint8_t *a0, uint8_t *a1, uint8_t *a2)
+static KELIFANDRO_APART uint32_t opening_open_once(uint8_t *a0, uint8_t *a1, uint8_t *a2)
 {
     KELIFANDRO_ROOM uint8_t room[208];
     uint8_t *const r4 = room;
@@ -1622,7 +1622,7 @@ c_host_registers_CRegistersRegisters_read8_exit: {
 }
 
 /* c_host::registers::CRegisters::read_in_word */
-static uint8_t CRegisters_read_in_word(uint8_t *a0, uint8_t a1)
+static KELIFANDRO_APART uint8_t CRegisters_read_in_word(uint8_t *a0, uint8_t a1)
 {
     KELIFANDRO_ROOM uint8_t r2[4];
     uint32_t r7 = CRegistersRegisters_read32(a0, (uint8_t)(a1 & 252u));
@@ -2154,7 +2154,7 @@ common_ret: {
 }
 
 /* mmc_identify::identification::identify::<#1bed76fd314cf36e> */
-static void identification_identify(uint8_t *a0, uint8_t *a1)
+static KELIFANDRO_APART void identification_identify(uint8_t *a0, uint8_t *a1)
 {
     KELIFANDRO_ROOM uint8_t room[80];
     uint8_t *const r21_38 = room;
@@ -8286,14 +8286,14 @@ loop_2thread_pre_split: {
 }
 
 /* mmc_direct::counting::count_done */
-static void counting_count_done(uint8_t *a0)
+static KELIFANDRO_APART void counting_count_done(uint8_t *a0)
 {
     store64(a0, uadd_sat64(load64(a0), 1u));
     return;
 }
 
 /* mmc_direct::counting::count_failed */
-static void counting_count_failed(uint8_t *a0, uint8_t a1)
+static KELIFANDRO_APART void counting_count_failed(uint8_t *a0, uint8_t a1)
 {
     uint64_t r3_0_0;
     uint64_t r3_6_0_2;
@@ -8365,7 +8365,7 @@ mmc_recovery_healed_Healed_met_exit: {
 }
 
 /* kelifandro::longs::may_begin */
-static struct of_i8_i32 longs_may_begin(uint8_t *a0, uint8_t *a1, uint8_t *a2)
+static KELIFANDRO_APART struct of_i8_i32 longs_may_begin(uint8_t *a0, uint8_t *a1, uint8_t *a2)
 {
     KELIFANDRO_ROOM uint8_t r3[208];
     KELIFANDRO_ROOM uint8_t r1[192];

@@ -139,7 +139,8 @@ class Core:
         prototype = self.prototype_of(function)
         if prototype is None:
             given = ', '.join(declared(p.type, name) for p, name in zip(function.parameters, names)) or 'void'
-            return 'static %s(%s)' % (declared(function.type, self.functions[function.name]), given)
+            apart = 'KELIFANDRO_APART ' if function.is_apart else ''
+            return 'static %s%s(%s)' % (apart, declared(function.type, self.functions[function.name]), given)
         given = ', '.join(kind + ('' if kind.endswith('*') else ' ') + name for kind, name in zip(prototype.types, names))
         return '%s %s(%s)' % (prototype.result, prototype.name, given)
 

@@ -15,6 +15,7 @@ class Function:
     def __init__(self, name, type, parameters, is_exported, line):
         self.name, self.type, self.parameters, self.is_exported, self.line = name, type, parameters, is_exported, line
         self.blocks = {}
+        self.is_apart = False  # never taken in where it is called
 
     def instructions(self):
         for block in self.blocks.values():
@@ -97,6 +98,7 @@ class Module:
 
     def __init__(self, text):
         self.functions, self.tables, self.function, self.block = [], {}, None, None
+        self.apart = set(re.findall(r'^attributes (#\d+) = \{.*\bnoinline\b', text, re.M))
         for number, line in whole_lines(text):
             if line.strip() and not line.startswith(HEADS):
                 self.read(line, number)
@@ -111,6 +113,7 @@ class Module:
             self.tables[name] = found
         elif text.startswith('define'):
             self.function, self.block = function_head(Line(text, number)), None
+            self.function.is_apart = not self.apart.isdisjoint(re.findall(r'#\d+', text))
             self.functions.append(self.function)
         elif text.startswith('}'):
             self.function = None
