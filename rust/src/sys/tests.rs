@@ -15,7 +15,7 @@ extern "C" {
 }
 
 #[rustfmt::skip]
-const LAYOUT: [usize; 101] = [
+const LAYOUT: [usize; 102] = [
     size_of::<CCommand>(), offset_of!(CCommand, response), offset_of!(CCommand, data),
     offset_of!(CCommand, argument), offset_of!(CCommand, block_length), offset_of!(CCommand, blocks),
     size_of::<CMoved>(), offset_of!(CMoved, failed),
